@@ -1,0 +1,11 @@
+pub mod Groups
+pub mod Strings
+pub mod Growth
+pub mod Tables
+pub mod Questions
+pub mod Terms
+pub mod Tokens
+pub mod Equations
+pub mod Bindings
+pub mod Calls
+pub mod Marked
