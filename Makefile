@@ -1,8 +1,24 @@
-# make test   the gate: proves every crate from nothing, tries every must-fail edit, runs every program
-.PHONY: test fmt
+# make test    the gate: the plain Rust tests, the comparison through the static library, then every proof and must-fail edit
+# make bench   times ours against plain Rust and prints ratios
+.PHONY: test bench same fmt
 
-test:
+LIBRARY := $(CURDIR)/target/staticlib
+CARGO := CARGO_TARGET_DIR=$(CURDIR)/target/cargo SHARING_LIB_DIR=$(LIBRARY) cargo
+BENCH := $(CARGO) run --quiet --release --manifest-path bench/Cargo.toml --
+
+test: same
+	@$(CARGO) test --quiet --manifest-path reference/Cargo.toml
 	@rt ci
+
+same:
+	@rt staticlib timing
+	@$(BENCH) --same
+
+bench:
+	@rt staticlib timing
+	@$(BENCH)
 
 fmt:
 	@rt fmt
+	@cd reference && cargo fmt
+	@cd bench && cargo fmt

@@ -60,7 +60,8 @@ none-overflows τ (y ∷ ys) e = go (grow τ y) refl (λ ρ. none-overflows ρ y
   where
     here : grow τ y ≡ none → Overflows τ (y ∷ ys)
     here d =
-        let f = grow-none τ y d in record { before = []; y = y; after = ys; ρ = τ; is = refl; grown = refl; new = f .0; full = f .1 }
+        let f = grow-none τ y d in
+        record { before = []; y = y; after = ys; ρ = τ; is = refl; grown = refl; new = f .0; full = f .1 }
 
     go : (o : Option Entries) → grow τ y ≡ o → ((ρ : Entries) → fold grow ρ ys ≡ none → Overflows ρ ys)
         → (o >>= λ ρ. fold grow ρ ys) ≡ none → Overflows τ (y ∷ ys)
@@ -79,7 +80,7 @@ full-exact τ ys = (none-overflows τ ys, overflows-none τ ys)
 
 -- ---- At most 256 strings
 
-remove-length : (y : Trits) (τ : Entries) → length (remove y τ) ≤ length τ
+pub remove-length : (y : Trits) (τ : Entries) → length (remove y τ) ≤ length τ
 unfolding remove
 remove-length y [] = omega arith
 remove-length y (s ∷ τ) = go (subsumes y s) (remove-length y τ)

@@ -23,7 +23,7 @@ unfolding Wide
 wide-append l [] ρ w v = v
 wide-append l (s ∷ τ) ρ w v = (w .0, wide-append l τ ρ (w .1) v)
 
-wide-remove : (l : ℕ) (y : Trits) (τ : Entries) → Wide l τ → Wide l (remove y τ)
+pub wide-remove : (l : ℕ) (y : Trits) (τ : Entries) → Wide l τ → Wide l (remove y τ)
 unfolding remove Wide
 wide-remove l y [] w = w
 wide-remove l y (s ∷ τ) w = go (subsumes y s) (wide-remove l y τ (w .1))

@@ -31,9 +31,11 @@ match-digit t1 t1 = true
 match-digit t1 t* = true
 match-digit t* u = true
 
--- Meet: the fixed value, else `*`.
+-- Meet: the fixed value, else `*`. (Of 0 and 1, which do not match, 1: no procedure forms that meet.)
 abbrev pub meet-digit : Trit → Trit → Trit
-meet-digit t0 u = t0
+meet-digit t0 t0 = t0
+meet-digit t0 t1 = t1
+meet-digit t0 t* = t0
 meet-digit t1 u = t1
 meet-digit t* u = u
 

@@ -1,0 +1,100 @@
+//! The verified side: the two calls of libtiming.a, wrapped in safe functions.
+
+use reference::{Entry, ENTRIES};
+
+/// The number of the refusal of a list that needs entry 257.
+const FULL: u32 = 8;
+
+/// A table as the C boundary lays it out: entry k is `care[k]` and `value[k]`, and both are
+/// zero past the count n.
+#[repr(C)]
+#[derive(Clone, Copy, PartialEq, Eq)]
+pub struct Table {
+    pub l: u32,
+    pub n: usize,
+    pub care: [u32; ENTRIES],
+    pub value: [u32; ENTRIES],
+}
+
+/// The number of an answer, with the table that goes with it.
+#[repr(C)]
+struct Timed {
+    code: u32,
+    table: Table,
+}
+
+extern "C" {
+    fn timing_convert(l: u32, words: *const u32, len: usize) -> Timed;
+    fn timing_grow(
+        care: *mut [u32; ENTRIES],
+        value: *mut [u32; ENTRIES],
+        n: usize,
+        l: u32,
+        ycare: *const [u32; ENTRIES],
+        yvalue: *const [u32; ENTRIES],
+        m: usize,
+    ) -> usize;
+}
+
+impl Table {
+    /// The table without entries.
+    pub fn empty(l: u32) -> Table {
+        Table {
+            l,
+            n: 0,
+            care: [0; ENTRIES],
+            value: [0; ENTRIES],
+        }
+    }
+
+    /// The table of some entries, of which there are at most 256.
+    pub fn of(l: u32, entries: &[Entry]) -> Table {
+        let mut table = Table::empty(l);
+        table.n = entries.len();
+        for (k, entry) in entries.iter().enumerate() {
+            table.care[k] = entry.care;
+            table.value[k] = entry.value;
+        }
+        table
+    }
+
+    /// The words of the entry at an index, also past the count.
+    pub fn entry(&self, k: usize) -> Entry {
+        Entry {
+            care: self.care[k],
+            value: self.value[k],
+        }
+    }
+}
+
+/// Converts groups: the table, or the number of the refusal.
+pub fn convert(l: u32, groups: &[u32]) -> Result<Table, u32> {
+    // SAFETY: the pointer and the length are those of one slice, which is only read.
+    let timed = unsafe { timing_convert(l, groups.as_ptr(), groups.len()) };
+    match timed.code {
+        0 => Ok(timed.table),
+        number => Err(number),
+    }
+}
+
+/// Grows the list of a table by each of some strings; an error says that it is full.
+pub fn grow(table: &mut Table, strings: &Table) -> Result<(), u32> {
+    // SAFETY: the four arrays are whole, the borrows say that those written are lent to this
+    // call alone, and any words make an array.
+    let count = unsafe {
+        timing_grow(
+            &mut table.care,
+            &mut table.value,
+            table.n,
+            table.l,
+            &strings.care,
+            &strings.value,
+            strings.n,
+        )
+    };
+    if count > ENTRIES {
+        return Err(FULL);
+    }
+    table.n = count;
+    Ok(())
+}

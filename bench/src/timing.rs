@@ -1,0 +1,98 @@
+//! The least time of a call, of two sides in turn.
+
+use std::time::{Duration, Instant};
+
+/// In one round each side is sampled at least this often ...
+const SAMPLES: u32 = 100;
+
+/// ... and for at least this long.
+const TIME: Duration = Duration::from_millis(60);
+
+/// A sample lasts at least this long, so that reading the clock is a small part of it.
+const SAMPLE: Duration = Duration::from_micros(10);
+
+/// Seconds of one call on each side.
+#[derive(Clone, Copy)]
+pub struct Times {
+    pub ours: f64,
+    pub plain: f64,
+}
+
+impl Times {
+    /// What is known before the first round.
+    pub const UNKNOWN: Times = Times {
+        ours: f64::INFINITY,
+        plain: f64::INFINITY,
+    };
+
+    /// The lesser time of each side.
+    pub fn min(self, other: Times) -> Times {
+        Times {
+            ours: self.ours.min(other.ours),
+            plain: self.plain.min(other.plain),
+        }
+    }
+}
+
+/// One round: the least time of each side. The samples alternate, so that a slow spell of the
+/// machine falls on both; the least one is what the call takes where nothing disturbs it.
+pub fn least(ours: impl FnMut(), plain: impl FnMut()) -> Times {
+    let mut ours = Side::new(ours);
+    let mut plain = Side::new(plain);
+    let mut samples = 0;
+    while samples < SAMPLES || ours.spent < TIME || plain.spent < TIME {
+        ours.sample();
+        plain.sample();
+        samples += 1;
+    }
+    Times {
+        ours: ours.seconds(),
+        plain: plain.seconds(),
+    }
+}
+
+/// One side: its call, how many calls make a sample, and what was measured.
+struct Side<F> {
+    call: F,
+    batch: u32,
+    least: Duration,
+    spent: Duration,
+}
+
+impl<F: FnMut()> Side<F> {
+    /// Doubles the batch until a sample is long enough; this also warms the caches.
+    fn new(call: F) -> Side<F> {
+        let mut side = Side {
+            call,
+            batch: 1,
+            least: Duration::MAX,
+            spent: Duration::ZERO,
+        };
+        side.run();
+        while side.run() < SAMPLE {
+            side.batch *= 2;
+        }
+        side
+    }
+
+    /// The time of one batch.
+    fn run(&mut self) -> Duration {
+        let start = Instant::now();
+        for _ in 0..self.batch {
+            (self.call)();
+        }
+        start.elapsed()
+    }
+
+    /// Takes one sample into account.
+    fn sample(&mut self) {
+        let time = self.run();
+        self.least = self.least.min(time);
+        self.spent += time;
+    }
+
+    /// The seconds of one call in the least sample.
+    fn seconds(&self) -> f64 {
+        self.least.as_secs_f64() / f64::from(self.batch)
+    }
+}

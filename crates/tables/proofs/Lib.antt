@@ -1,0 +1,9 @@
+pub mod Arrays
+pub mod Packing
+pub mod Growing
+pub mod Values
+pub mod Widening
+pub mod Toward
+pub mod Converting
+pub mod Checking
+pub mod Idle

@@ -1,0 +1,76 @@
+-- How two arrays of 256 words and a count hold a list of strings.
+use mathlib.Core.Path.{_≡_}
+use mathlib.Core.Bool.{Bool, false, _||_}
+use mathlib.Core.List.{List, [], _∷_, _++_, map}
+use mathlib.Core.Option.{Option, some, none}
+use Prim.Native.Nat.{ℕ, _-_, _≤_}
+use lib.ListN.{length, take, replicate}
+use Rattle.model.specs.Groups.{Bits, or}
+use Rattle.model.specs.Strings.{Trits, all-zero}
+use Rattle.model.specs.Growth.{Entries, limit, subsumed}
+use Rattle.model.specs.Tables.{Good}
+use Rattle.words.specs.declared.Entry.{Entry}
+use Rattle.words.specs.Words.{word, string, openings}
+use Rattle.tables.specs.declared.lists.Grown.{Grown}
+use Rattle.tables.specs.declared.lists.Grown.the-variants.{Count, Full}
+
+-- Care and value word both 0.
+abbrev pub zero-entry : Entry
+zero-entry = record { care = 0; value = 0 }
+
+-- The words, with zeros up to 256.
+unfoldable pub padded : List Entry → List Entry
+padded ws = ws ++ replicate (limit - length ws) zero-entry
+
+-- The words of a list of strings, with zeros up to 256.
+unfoldable pub list-words : Entries → List Entry
+list-words τ = padded (map word τ)
+
+-- The two arrays have the care and the value words of ws.
+pub record Arrays (care value : List ℕ) (ws : List Entry) : Type 0 where
+  pub cares : care ≡ map (λ (e : Entry). e .care) ws
+  pub values : value ≡ map (λ (e : Entry). e .value) ws
+
+-- The arrays and the count n hold τ, a good list of strings of l positions; past the count the arrays are zero.
+pub record Holds (l : ℕ) (care value : List ℕ) (n : ℕ) (τ : Entries) : Type 0 where
+  pub arrays : Arrays care value (list-words τ)
+  pub count : n ≡ length τ
+  pub good : Good l τ
+
+-- The words at each index of two arrays.
+unfoldable pub pairs : List ℕ → List ℕ → List Entry
+pairs [] vs = []
+pairs (c ∷ cs) [] = []
+pairs (c ∷ cs) (v ∷ vs) = record { care = c; value = v } ∷ pairs cs vs
+
+-- The strings of l positions that the first n entries of two arrays stand for.
+unfoldable pub strings : ℕ → List ℕ → List ℕ → ℕ → Entries
+strings l care value n = map (string l) (take n (pairs care value))
+
+-- Some entry passes the test.
+unfoldable pub any : (Trits → Bool) → Entries → Bool
+any p [] = false
+any p (s ∷ τ) = p s || any p τ
+
+-- The positions of y that some entry opens: those fixed positions at which y with that value flipped is subsumed by one entry.
+unfoldable pub open-set : Entries → Trits → Bits
+open-set [] y = []
+open-set (e ∷ τ) y = or (openings e y) (open-set τ y)
+
+-- Growing τ by s changes nothing: s is all zero, or an entry subsumes it.
+unfoldable pub idle : Entries → Trits → Bool
+idle τ s = all-zero s || subsumed τ s
+
+-- P of any list of strings of l positions that the arrays hold, and any string whose words are y.
+abbrev pub OfString : (l : ℕ) (care value : List ℕ) (n : ℕ) → Entry → (Entries → Trits → Type 0) → Type 0
+OfString l care value n y P = (τ : Entries) (s : Trits) → Holds l care value n τ → length s ≡ l → y ≡ word s → P τ s
+
+-- A count that was answered is within the limit.
+abbrev pub Within : Grown → Type 0
+Within (Count n) = n ≤ limit
+Within Full = Unit {0}
+
+-- What a call leaves and answers, by what it was to compute: the list and its count; or full, and the arrays as they were.
+pub data Leaves (l : ℕ) (care₀ value₀ care value : List ℕ) : Grown → Option Entries → Type 0 where
+  made : {n : ℕ} {τ : Entries} → Holds l care value n τ → Leaves l care₀ value₀ care value (Count n) (some τ)
+  refused : care ≡ care₀ → value ≡ value₀ → Leaves l care₀ value₀ care value Full none

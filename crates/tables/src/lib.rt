@@ -1,0 +1,196 @@
+// Tables of ternary strings: the table value with its limits, the refusals, the check of a table value, and conversion.
+// `lists` is inner: not a public call.
+pub mod lists;
+
+use lists::Grown;
+ghost use mathlib.Core.Path.{_≡_};
+ghost use mathlib.Core.List.{[], _∷_};
+ghost use Rattle.model.specs.Strings.{stars};
+ghost use Rattle.tables.specs.Refusals.{refusal-number, answer-number};
+ghost use Rattle.tables.specs.Values.{zero-table, refuses, good-width, check-table, GoodTable, of-width, convert-call};
+
+// A table value: l variables, n entries in order, and zeros past the count. Bit i - 1 of a word is for Xi.
+#[repr(C)]
+pub struct Table {
+    pub l: u32,
+    pub n: usize,
+    pub care: [u32; 256],
+    pub value: [u32; 256],
+}
+
+// Why a call is refused.
+pub enum Refusal {
+    Torn,
+    Width,
+    Entries,
+    Stray,
+    Name,
+    Term,
+    Long,
+    Full,
+    Narrow,
+    Unlike,
+    Keep,
+}
+
+pub enum Answer {
+    Accepted,
+    Refused(Refusal),
+}
+
+// An answer with the table that goes with it.
+pub struct Answered {
+    pub answer: Answer,
+    pub table: Table,
+}
+
+// The number of a refusal.
+pub fn refusal_number(r: Refusal) -> u32
+    ensures { λ k. ⌜ k ≡ refusal-number r ⌝ }
+{
+    match r {
+        Refusal::Torn => 1,
+        Refusal::Width => 2,
+        Refusal::Entries => 3,
+        Refusal::Stray => 4,
+        Refusal::Name => 5,
+        Refusal::Term => 6,
+        Refusal::Long => 7,
+        Refusal::Full => 8,
+        Refusal::Narrow => 9,
+        Refusal::Unlike => 10,
+        Refusal::Keep => 11,
+    }
+}
+
+// The number of an answer: 0 where accepted.
+pub fn answer_number(a: Answer) -> u32
+    ensures { λ k. ⌜ k ≡ answer-number a ⌝ }
+{
+    match a {
+        Answer::Accepted => 0,
+        Answer::Refused(r) => refusal_number(r),
+    }
+}
+
+impl Table {
+    // The most entries and the most variables of a table.
+    pub const ENTRIES: usize = 256;
+
+    pub const VARIABLES: u32 = 16;
+
+    // The table that a refusal returns where none came in.
+    pub fn zero() -> Table
+        ensures { λ t. ⌜ t ≡ zero-table ⌝ }
+    {
+        Table {
+            l: 0,
+            n: 0,
+            care: [0; 256],
+            value: [0; 256],
+        }
+    }
+
+    // The empty table of l variables.
+    pub fn empty(l: u32) -> Answered
+        ensures { λ r. ⌜ r ≡ of-width l [] ⌝ }
+    {
+        if !good_width(l) {
+            return refused(Refusal::Width);
+        }
+        Answered {
+            answer: Answer::Accepted,
+            table: Table {
+                l: l,
+                n: 0,
+                care: [0; 256],
+                value: [0; 256],
+            },
+        }
+    }
+
+    // The table of l variables whose one entry is all `*`: its two words are 0.
+    pub fn all_star(l: u32) -> Answered
+        ensures { λ r. ⌜ r ≡ of-width l (stars l ∷ []) ⌝ }
+    {
+        if !good_width(l) {
+            return refused(Refusal::Width);
+        }
+        Answered {
+            answer: Answer::Accepted,
+            table: Table {
+                l: l,
+                n: 1,
+                care: [0; 256],
+                value: [0; 256],
+            },
+        }
+    }
+}
+
+// Is l one of 1 to 16?
+pub fn good_width(l: u32) -> bool
+    ensures { λ r. ⌜ r ≡ good-width l ⌝ }
+{
+    (0 < l) & (l <= Table::VARIABLES)
+}
+
+// A refusal where no table value came in.
+fn refused(r: Refusal) -> Answered
+    ensures { λ a. ⌜ a ≡ refuses r zero-table ⌝ }
+{
+    Answered {
+        answer: Answer::Refused(r),
+        table: Table::zero(),
+    }
+}
+
+// Does the table value meet 2, 3 or 4?
+pub fn check(t: Table) -> Answer
+    ensures answer { λ r. ⌜ r ≡ check-table t ⌝ }
+    ensures good { λ r. ⌜ ((r ≡ Answer.Accepted → GoodTable t) × (GoodTable t → r ≡ Answer.Accepted)) ⌝ }
+{
+    let l = t.l;
+    let n = t.n;
+    if !good_width(l) {
+        return Answer::Refused(Refusal::Width);
+    }
+    if Table::ENTRIES < n {
+        return Answer::Refused(Refusal::Entries);
+    }
+    let care = t.care;
+    let value = t.value;
+    if !lists::all_clean(&care, &value, n, l) {
+        return Answer::Refused(Refusal::Stray);
+    }
+    if !lists::zero_past(&care, &value, n) {
+        return Answer::Refused(Refusal::Stray);
+    }
+    Answer::Accepted
+}
+
+// Convert groups, given as l and a row of words, bit i - 1 for Xi.
+pub fn convert(l: u32, words: &[u32]) -> Answered
+    ensures { λ r. ⌜ r ≡ convert-call l (now (words .entry)) ⌝ }
+{
+    if !good_width(l) {
+        return refused(Refusal::Width);
+    }
+    if !lists::all_below(l, words) {
+        return refused(Refusal::Stray);
+    }
+    let mut care = [0u32; 256];
+    let mut value = [0u32; 256];
+    match lists::convert(&mut care, &mut value, l, words) {
+        Grown::Count(n) => Answered {
+            answer: Answer::Accepted,
+            table: Table {
+                l: l,
+                n: n,
+                care: care,
+                value: value,
+            },
+        },
+        Grown::Full => refused(Refusal::Full),
+    }
+}

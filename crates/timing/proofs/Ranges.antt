@@ -1,0 +1,28 @@
+-- The answers of the entry point that grows a list. Assumes nothing.
+use mathlib.Core.Path.{_≡_, sym, _∙_}
+use mathlib.Core.Bool.{Bool, true, false}
+use mathlib.Core.List.{List}
+use mathlib.Core.Option.{Option}
+use Prim.Native.Nat.{ℕ, _≤_}
+use native.Mathlib.Omega.{arith}
+use borrow.Author.Tests.{le-leb}
+use Rattle.model.specs.Growth.{Entries}
+use Rattle.tables.specs.declared.lists.Grown.{Grown}
+use Rattle.tables.specs.declared.lists.Grown.the-variants.{Count, Full}
+use Rattle.tables.specs.Lists.{Leaves}
+use Rattle.timing.specs.Timed.{grown}
+
+true-false : true ≡ false → ⊥
+true-false e = let z : _≡_ {A = ℕ} 0 1 = cc in omega arith
+
+-- a test is not both
+pub not-both : {A : Type 0} {b : Bool} → b ≡ true → b ≡ false → A
+not-both t f = absurd (true-false (sym t ∙ f))
+
+module _ {l : ℕ} {care₀ value₀ care value : List ℕ} {r : Grown} {o : Option Entries}
+    (told : Leaves l care₀ value₀ care value r o) where
+  pub leaves-number : {k : ℕ} → r ≡ Count k → k ≤ 256 → Leaves l care₀ value₀ care value (grown k) o
+  leaves-number {k = k} e h = let t = rw e at told in rw (le-leb k 256 h) t
+
+  pub leaves-257 : r ≡ Full → Leaves l care₀ value₀ care value (grown 257) o
+  leaves-257 e = rw e at told

@@ -1,0 +1,6 @@
+pub mod Digits
+pub mod Words
+pub mod Positions
+pub mod Codec
+pub mod Gather
+pub mod OpeningLaws
