@@ -27,8 +27,7 @@ pub fn difference(input: &Input) -> Option<String> {
     }
 }
 
-/// The time that each side takes for one pass over all inputs of a row. They take turns, since a
-/// processor that meets one input again and again learns its branches by heart.
+/// The time that each side takes for one pass over some inputs.
 pub fn times(inputs: &[Input]) -> Times {
     let ours: Vec<OurInput> = inputs.iter().map(OurInput::of).collect();
     least(

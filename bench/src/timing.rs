@@ -6,7 +6,7 @@ use std::time::{Duration, Instant};
 const SAMPLES: u32 = 100;
 
 /// ... and for at least this long.
-const TIME: Duration = Duration::from_millis(60);
+const TIME: Duration = Duration::from_millis(20);
 
 /// A sample lasts at least this long, so that reading the clock is a small part of it.
 const SAMPLE: Duration = Duration::from_micros(10);

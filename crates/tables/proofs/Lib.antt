@@ -7,3 +7,4 @@ pub mod Toward
 pub mod Converting
 pub mod Checking
 pub mod Idle
+pub mod Passing

@@ -1,16 +1,16 @@
 -- How two arrays of 256 words and a count hold a list of strings.
 use mathlib.Core.Path.{_≡_}
-use mathlib.Core.Bool.{Bool, false, _||_}
+use mathlib.Core.Bool.{Bool, true, false, _||_}
 use mathlib.Core.List.{List, [], _∷_, _++_, map}
 use mathlib.Core.Option.{Option, some, none}
-use Prim.Native.Nat.{ℕ, _-_, _≤_}
-use lib.ListN.{length, take, replicate}
+use Prim.Native.Nat.{ℕ, _-_, _≤_, _<_}
+use lib.ListN.{length, getD, take, replicate}
 use Rattle.model.specs.Groups.{Bits, or}
 use Rattle.model.specs.Strings.{Trits, all-zero}
 use Rattle.model.specs.Growth.{Entries, limit, subsumed}
 use Rattle.model.specs.Tables.{Good}
 use Rattle.words.specs.declared.Entry.{Entry}
-use Rattle.words.specs.Words.{word, string, openings}
+use Rattle.words.specs.Words.{word, string, openings, subsumes-words}
 use Rattle.tables.specs.declared.lists.Grown.{Grown}
 use Rattle.tables.specs.declared.lists.Grown.the-variants.{Count, Full}
 
@@ -60,6 +60,11 @@ open-set (e ∷ τ) y = or (openings e y) (open-set τ y)
 -- Growing τ by s changes nothing: s is all zero, or an entry subsumes it.
 unfoldable pub idle : Entries → Trits → Bool
 idle τ s = all-zero s || subsumed τ s
+
+-- The strings from index j up to r are all subsumed by a.
+abbrev pub Passes : List ℕ → List ℕ → Entry → ℕ → ℕ → Type 0
+Passes care value a j r =
+    (i : ℕ) → j ≤ i → i < r → subsumes-words a (record { care = getD care i 0; value = getD value i 0 }) ≡ true
 
 -- P of any list of strings of l positions that the arrays hold, and any string whose words are y.
 abbrev pub OfString : (l : ℕ) (care value : List ℕ) (n : ℕ) → Entry → (Entries → Trits → Type 0) → Type 0

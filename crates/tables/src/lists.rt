@@ -5,7 +5,7 @@ use words::Entry;
 ghost use mathlib.Core.Path.{_≡_};
 ghost use mathlib.Core.Bool.{true, cond};
 ghost use mathlib.Core.List.{[], map};
-ghost use Prim.Native.Nat.{ℕ, _≤_};
+ghost use Prim.Native.Nat.{ℕ, _+_, _≤_};
 ghost use lib.Dec.{ltb};
 ghost use lib.ListN.{length};
 ghost use Rattle.model.specs.Groups.{Bits};
@@ -14,7 +14,7 @@ ghost use Rattle.model.specs.Growth.{Entries, subsumed as subsumed-list, remove
 ghost use Rattle.model.specs.Growth.{widen as widen-list, grow-all as grow-all-list};
 ghost use Rattle.model.specs.Growth.{convert-one as convert-one-list, convert as convert-list};
 ghost use Rattle.words.specs.Words.{word, set, set-word};
-ghost use Rattle.tables.specs.Lists.{Holds, OfString, any, open-set, Within, Leaves};
+ghost use Rattle.tables.specs.Lists.{Holds, OfString, any, open-set, Passes, Within, Leaves};
 ghost use Rattle.tables.specs.Values.{all-clean, zero-past, all-below as all-below-list};
 
 // The new count of a list, or that it needs entry 257.
@@ -200,6 +200,41 @@ fn wider(a: Entry, b: Entry) -> Entry
     a
 }
 
+// Does a subsume each of the 8 strings from j on?
+fn subsumes_eight(ycare: &[u32; 256], yvalue: &[u32; 256], j: usize, a: Entry) -> bool
+    requires { ⌜ j ≤ 248 ⌝ }
+    ensures { λ r. ⌜ (r ≡ true → Passes (now (ycare .entry)) (now (yvalue .entry)) a j (j + 8)) ⌝ }
+{
+    let end = j + 8;
+    let mut all = true;
+    let mut i = j;
+    while i < end {
+        let y = Entry {
+            care: ycare[i],
+            value: yvalue[i],
+        };
+        all = all & words::subsumes(a, y);
+        i += 1;
+    }
+    all
+}
+
+// An index from j up to m with only strings before it that a subsumes. How far it goes, here by whole blocks of 8, is a matter
+// of speed alone.
+fn pass(ycare: &[u32; 256], yvalue: &[u32; 256], j: usize, m: usize, a: Entry) -> usize
+    requires { ⌜ (j ≤ m) × (m ≤ 256) ⌝ }
+    ensures { λ r. ⌜ (j ≤ r) × (r ≤ m) × Passes (now (ycare .entry)) (now (yvalue .entry)) a j r ⌝ }
+{
+    let mut k = j;
+    while 8 <= m - k {
+        if !subsumes_eight(ycare, yvalue, k, a) {
+            return k;
+        }
+        k += 8;
+    }
+    k
+}
+
 // Grows the list by each of the m entries of another list, in order. Where that is full, the list is put back as it was.
 // `idle` is a string by which growing changes nothing; nor does it by a string that `idle` subsumes, which spares its passes.
 pub fn grow_all(
@@ -232,7 +267,10 @@ pub fn grow_all(
             care: ycare[j],
             value: yvalue[j],
         };
-        if !words::subsumes(idle, y) {
+        j += 1;
+        if words::subsumes(idle, y) {
+            j = pass(ycare, yvalue, j, m, idle);
+        } else {
             match grow(care, value, k, l, y) {
                 Grown::Count(c) => {
                     k = c;
@@ -245,7 +283,6 @@ pub fn grow_all(
             }
             idle = wider(idle, y);
         }
-        j += 1;
     }
     Grown::Count(k)
 }

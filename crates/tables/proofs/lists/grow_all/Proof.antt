@@ -1,14 +1,13 @@
 use mathlib.Core.Path.{refl, sym, _∙_}
 use mathlib.Core.List.{[]}
-use mathlib.Core.Logic.{⊎-elim}
-use Prim.Native.Nat.{_-_, _≤_}
+use Prim.Native.Nat.{_+_, _-_, _≤_}
 use native.Mathlib.Omega.{arith}
-use borrow.Author.Tests.{not-false}
 use lib.ListN.{getD}
 use Rattle.model.specs.Growth.{Entries, grow, grow-all}
 use Rattle.tables.specs.Lists.{Holds, strings, refused}
 use Rattle.tables.proofs.Arrays.{holds-at, holds-length}
-use Rattle.tables.proofs.Idle.{Beside, beside-start, beside-step, beside-same}
+use Rattle.tables.proofs.Idle.{Beside, beside-start, beside-step}
+use Rattle.tables.proofs.Passing.{toward-one, toward-to}
 use Rattle.tables.proofs.Toward.{Toward, toward-start, toward-step, toward-stop, toward-end, within-count}
 use borrow.Author.Needs.{needs}
 use Rattle.tables.proofs.lists.grow_all.Statement.{statement}
@@ -42,8 +41,30 @@ mul-t21 c = search needs
 element-copy-out-t24 : tie.Need-element-copy-out-t24 Inv-loop μ-loop
 element-copy-out-t24 c = search needs
 
+add-j : tie.Need-add-j Inv-loop μ-loop
+add-j c = search needs
+
 subsumes-requires : tie.Need-subsumes-requires Inv-loop μ-loop
 subsumes-requires c κs = search needs
+
+pass-requires : tie.Need-pass-requires Inv-loop μ-loop
+pass-requires c κs = search needs
+
+loop-less : tie.Need-loop-less Inv-loop μ-loop
+loop-less c = search needs
+
+loop-again : tie.Need-loop-again Inv-loop μ-loop
+loop-again c =
+    let lp = c .before .before .before .before .before .before .loop in
+    let p = c .pass .ensures in (
+      p .1,
+      lp .inv .1,
+      λ τ ρ h y.
+          let w = lp .inv .2 τ ρ h y .0 in
+          let s = lp .inv .2 τ ρ h y .1 in
+          let e = sym (c .before .before .subsumes .ensures .0) ∙ c .before .if1 .taken in
+          (toward-to y s (lp .j + 1) _ (p .0) (p .1) (p .2) (toward-one y s (lp .j) (omega arith) e w), s),
+    )
 
 grow-requires : tie.Need-grow-requires Inv-loop μ-loop
 grow-requires c κs = search needs
@@ -69,47 +90,26 @@ returns c = (
 wider-requires : tie.Need-wider-requires Inv-loop μ-loop
 wider-requires c κs = search needs
 
-add-j : tie.Need-add-j Inv-loop μ-loop
-add-j c = search needs
+loop-less-2 : tie.Need-loop-less-2 Inv-loop μ-loop
+loop-less-2 c = search needs
 
-loop-less : tie.Need-loop-less Inv-loop μ-loop
-loop-less c = search needs
-
-loop-again : tie.Need-loop-again Inv-loop μ-loop
-loop-again c =
-    let lp = c .before .before .before .before .before .loop in
-    ⊎-elim
-    (λ v.
-    let g = v .3 in
-    let is = v .5 .given .1 in
-    let few = within-count (g .ensures .0) is in (
+loop-again-2 : tie.Need-loop-again-2 Inv-loop μ-loop
+loop-again-2 c =
+    let lp = c .before .before .before .before .before .before .before .before .before .before .before .before .loop in
+    let g = c .before .before .before .before .grow in
+    let is = c .before .before .c .given .1 in (
       omega arith,
-      rw (v .10) few,
+      within-count (g .ensures .0) is,
       λ τ ρ h y.
           let w = lp .inv .2 τ ρ h y .0 in
           let s = lp .inv .2 τ ρ h y .1 in
-          let told = g .ensures .1 _ (getD ρ (lp .j) []) (w .list) (holds-length y (lp .j) (omega arith))
-          (holds-at y (lp .j) (omega arith)) in
-          rw (v .8, v .9, v .10, v .11) (
+          let n = holds-length y (lp .j) (omega arith) in
+          let at = holds-at y (lp .j) (omega arith) in
+          let told = g .ensures .1 _ (getD ρ (lp .j) []) (w .list) n at in (
             toward-step _ grow ρ [] _ w (omega (arith, y .count)) told is,
-            beside-step (getD ρ (lp .j) []) told is (holds-length y (lp .j) (omega arith)) (holds-at y (lp .j) (omega arith)) s
-                (v .7 .ensures),
+            beside-step (getD ρ (lp .j) []) told is n at s (c .wider .ensures),
           ),
-    ))
-    (λ v. (
-      omega arith,
-      rw (v .3) (lp .inv .1),
-      λ τ ρ h y.
-          let w = lp .inv .2 τ ρ h y .0 in
-          let s = lp .inv .2 τ ρ h y .1 in
-          let at = getD ρ (lp .j) [] in
-          let e = holds-length y (lp .j) (omega arith) in
-          let t = sym (c .before .subsumes .ensures .1 (s .string) at (s .long ∙ sym e) (s .is)
-          (holds-at y (lp .j) (omega arith))) ∙ not-false _ (v .0 .left) in
-          rw (v .1, v .2, v .3, v .4)
-          (toward-step _ grow ρ [] _ w (omega (arith, y .count)) (beside-same s at (w .list) t) refl, s),
-    ))
-    (c .if1 .came)
+    )
 
 returns-2 : tie.Need-returns-2 Inv-loop μ-loop
 returns-2 c =
@@ -120,6 +120,6 @@ pub grow-all-spec : {M : Type 1} → statement M
 grow-all-spec =
     tie.close
     (tie.spec
-    Inv-loop μ-loop full-requires loop-holds mul-t17 element-copy-out-t20 mul-t21 element-copy-out-t24
-    subsumes-requires grow-requires enum-known-c enum-told returns wider-requires add-j loop-less loop-again
-    returns-2)
+    Inv-loop μ-loop full-requires loop-holds mul-t17 element-copy-out-t20 mul-t21 element-copy-out-t24 add-j
+    subsumes-requires pass-requires loop-less loop-again grow-requires enum-known-c enum-told returns wider-requires
+    loop-less-2 loop-again-2 returns-2)
