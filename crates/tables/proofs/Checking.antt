@@ -25,12 +25,15 @@ use Rattle.tables.specs.Values.{clean, is-zero, entry-at, all-from, all-
 use Rattle.tables.specs.Values.{check-table, GoodTable}
 use Rattle.tables.proofs.Arrays.{arrays-at, holds-at, holds-length}
 use Rattle.tables.proofs.Values.{holds-good}
-use Rattle.tables.proofs.Converting.{below-full, and-left}
+use Rattle.tables.proofs.Converting.{below-full, both-true}
 
 -- ---- A scan of the indexes below k
 
+pub scan-whole : (p : ℕ → Bool) (i n k : ℕ) → k ≡ i + n → all-from i n p ≡ all-from i (k - i) p
+scan-whole p i n k e = ap (λ (m : ℕ). all-from i m p) (let z : n ≡ k - i = omega (arith, e) in z)
+
 pub scan-start : (p : ℕ → Bool) (k : ℕ) → all-from 0 k p ≡ all-from 0 (k - 0) p
-scan-start p k = ap (λ (m : ℕ). all-from 0 m p) (let z : k ≡ k - 0 = omega arith in z)
+scan-start p k = scan-whole p 0 k k (omega arith)
 
 module _ (p : ℕ → Bool) (all : Bool) where
   pub scan-turn : (good : Bool) (i k : ℕ) → i < k → all ≡ (good && all-from i (k - i) p)
@@ -47,13 +50,13 @@ module _ (p : ℕ → Bool) (all : Bool) where
   scan-end good i k h so-far =
       sym (so-far ∙ ap (λ (m : ℕ). good && all-from i m p) (let z : k - i ≡ 0 = omega arith in z) ∙ and-true good)
 
-all-at : (p : ℕ → Bool) (i n : ℕ) → all-from i n p ≡ true → (m : ℕ) → m < n → p (i + m) ≡ true
+pub all-at : (p : ℕ → Bool) (i n : ℕ) → all-from i n p ≡ true → (m : ℕ) → m < n → p (i + m) ≡ true
 unfolding all-from
 all-at p i zero h m lt = absurd (not-suc-le-zero lt)
-all-at p i (suc n) h zero lt = rw (let z : i + 0 ≡ i = omega arith in z) (and-left (p i) (all-from (suc i) n p) h .0)
+all-at p i (suc n) h zero lt = rw (let z : i + 0 ≡ i = omega arith in z) (both-true (p i) (all-from (suc i) n p) h .0)
 all-at p i (suc n) h (suc m) lt =
     let s : i + suc m ≡ suc i + m = omega arith in
-    rw s (all-at p (suc i) n (and-left (p i) (all-from (suc i) n p) h .1) m (le-of-suc-le-suc lt))
+    rw s (all-at p (suc i) n (both-true (p i) (all-from (suc i) n p) h .1) m (le-of-suc-le-suc lt))
 
 all-below : (p : ℕ → Bool) (n : ℕ) → all-from 0 n p ≡ true → (m : ℕ) → m < n → p m ≡ true
 all-below p n h m lt = subst (λ (k : ℕ). p k ≡ true) (zero-add m) (all-at p 0 n h m lt)
@@ -77,7 +80,7 @@ clean-hit l full c v e = ap (λ (b : Bool). b && eqb (bitAnd v c) v) (below-full
 clean-is : (l : ℕ) (e : Entry) → clean l e ≡ true → Encodes l e
 unfolding clean
 clean-is l e h =
-    let t = and-left (ltb (e .care) (2 ^ l)) _ h in
+    let t = both-true (ltb (e .care) (2 ^ l)) _ h in
     let c = ltb-true (e .care) (2 ^ l) (t .0) in
     let v = eqb-true (bitAnd (e .value) (e .care)) (e .value) (t .1) in
     let le : bitAnd (e .value) (e .care) ≤ e .care = and-le-r (e .value) (e .care) in
@@ -91,7 +94,7 @@ clean-word l s e =
 zero-is : (e : Entry) → is-zero e ≡ true → e ≡ zero-entry
 unfolding is-zero
 zero-is e h =
-    let t = and-left (eqb (e .care) 0) (eqb (e .value) 0) h in
+    let t = both-true (eqb (e .care) 0) (eqb (e .value) 0) h in
     λ i. record { care = eqb-true (e .care) 0 (t .0) i; value = eqb-true (e .value) 0 (t .1) i }
 
 -- ---- All entries
@@ -220,10 +223,6 @@ good-holds g = record {
   good = g .list;
 }
 
--- the same, said at an equal width
-pub good-holds-at : {t : Table} {l : ℕ} → l ≡ t .l → GoodTable t → Holds l (t .care) (t .value) (t .n) (entries-of t)
-good-holds-at e g = rw e (good-holds g)
-
 -- The check accepts every good table value.
 pub good-passes : (t : Table) → GoodTable t → check-table t ≡ Accepted
 unfolding check-table
@@ -233,14 +232,7 @@ good-passes t g =
 
 pub width-most : (l : ℕ) → good-width l ≡ true → l ≤ 16
 unfolding good-width
-width-most l h = leb-true l 16 (and-left (ltb 0 l) (leb l 16) h .1)
-
--- what a good table value has at most
-pub count-few : {t : Table} → GoodTable t → t .n ≤ limit
-count-few g = let h = good-holds g in omega (arith, h .count, h .good .few)
-
-pub width-few : {t : Table} → GoodTable t → t .l ≤ 32
-width-few {t = t} g = let w = width-most (t .l) (g .width) in omega arith
+width-most l h = leb-true l 16 (both-true (ltb 0 l) (leb l 16) h .1)
 
 -- ---- Both promises of the check, by its answer
 

@@ -48,15 +48,15 @@ module _ (l : ℕ) (ws : List ℕ) where
   unfolding all-below
   below-end good i h so-far = sym (so-far ∙ ap (λ (r : List ℕ). good && all-below l r) (drop-of-length-le ws h) ∙ and-true good)
 
-pub and-left : (a b : Bool) → (a && b) ≡ true → (a ≡ true) × (b ≡ true)
-and-left true b h = (refl, h)
-and-left false b h = absurd (let z : _≡_ {A = ℕ} 0 1 = cc in omega arith)
+pub both-true : (a b : Bool) → (a && b) ≡ true → (a ≡ true) × (b ≡ true)
+both-true true b h = (refl, h)
+both-true false b h = absurd (let z : _≡_ {A = ℕ} 0 1 = cc in omega arith)
 
 pub below-at : (l : ℕ) (ws : List ℕ) (i : ℕ) → all-below l ws ≡ true → i < length ws → getD ws i 0 < 2 ^ l
 unfolding all-below
 below-at l [] i h lt = absurd (not-suc-le-zero lt)
-below-at l (w ∷ ws) zero h lt = ltb-true w (2 ^ l) (and-left (ltb w (2 ^ l)) (all-below l ws) h .0)
-below-at l (w ∷ ws) (suc i) h lt = below-at l ws i (and-left (ltb w (2 ^ l)) (all-below l ws) h .1) (le-of-suc-le-suc lt)
+below-at l (w ∷ ws) zero h lt = ltb-true w (2 ^ l) (both-true (ltb w (2 ^ l)) (all-below l ws) h .0)
+below-at l (w ∷ ws) (suc i) h lt = below-at l ws i (both-true (ltb w (2 ^ l)) (all-below l ws) h .1) (le-of-suc-le-suc lt)
 
 -- the string at an index of the row, and its word
 pub row-at : (l : ℕ) (ws : List ℕ) (i : ℕ) → getD (map (set l) ws) i (set l 0) ≡ set l (getD ws i 0)

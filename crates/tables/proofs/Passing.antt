@@ -1,6 +1,6 @@
 -- Runs of strings that one string subsumes, and what growing by them leaves. Assumes nothing.
 use mathlib.Core.Path.{_≡_, refl, sym, _∙_, subst}
-use mathlib.Core.Bool.{Bool, true, false, _&&_}
+use mathlib.Core.Bool.{Bool, true, false}
 use mathlib.Core.List.{List, []}
 use mathlib.Core.Option.{Option}
 use Prim.Native.Nat.{ℕ, zero, suc, _+_, _-_, _≤_, _<_}
@@ -13,16 +13,13 @@ use Rattle.words.specs.declared.Entry.{Entry}
 use Rattle.words.specs.Words.{word, subsumes-words}
 use Rattle.words.proofs.Words.{subsumes-word}
 use Rattle.tables.specs.Lists.{Passes, Holds, strings}
-use Rattle.tables.specs.Values.{entry-at}
+use Rattle.tables.specs.Values.{entry-at, all-from}
 use Rattle.tables.proofs.Arrays.{holds-at, holds-length}
-use Rattle.tables.proofs.Converting.{and-left}
+use Rattle.tables.proofs.Checking.{all-at}
 use Rattle.tables.proofs.Idle.{Beside, beside-same}
 use Rattle.tables.proofs.Toward.{Toward, toward-step}
 
 module _ (care value : List ℕ) (a : Entry) where
-  pub passes-none : (j : ℕ) → Passes care value a j j
-  passes-none j i h k = absurd (omega arith)
-
   pub passes-join : (j k r : ℕ) → Passes care value a j k → Passes care value a k r → Passes care value a j r
   passes-join j k r p q i h lt = go (ltb i k) refl
     where
@@ -30,15 +27,11 @@ module _ (care value : List ℕ) (a : Entry) where
       go true e = p i h (ltb-true i k e)
       go false e = q i (ltb-false i k e) lt
 
-  passes-one : (i : ℕ) → subsumes-words a (entry-at care value i) ≡ true → Passes care value a i (i + 1)
-  passes-one i e m h lt = let same : m ≡ i = omega arith in rw same e
-
-  pub passes-turn : (j i : ℕ) (all hit : Bool) → (all ≡ true → Passes care value a j i)
-      → hit ≡ subsumes-words a (entry-at care value i)
-      → (all && hit) ≡ true → Passes care value a j (i + 1)
-  passes-turn j i all hit p e t =
-      let u = and-left all hit t in
-      passes-join j i (i + 1) (p (u .0)) (passes-one i (sym e ∙ u .1))
+  pub passes-all : (j n : ℕ) → all-from j n (λ i. subsumes-words a (entry-at care value i)) ≡ true → Passes care value a j (j + n)
+  passes-all j n e i h lt =
+      subst (λ (k : ℕ). subsumes-words a (entry-at care value k) ≡ true)
+      (let z : j + (i - j) ≡ i = omega arith in z)
+      (all-at (λ k. subsumes-words a (entry-at care value k)) j n e (i - j) (omega arith))
 
 -- ---- Growing by such a run changes nothing
 

@@ -12,14 +12,14 @@ use Rattle.words.specs.declared.Entry.{Entry}
 use Rattle.words.proofs.Codec.{stars-word}
 use Rattle.tables.specs.declared.Table.{Table}
 use Rattle.tables.specs.Lists.{list-words, padded, Holds}
-use Rattle.tables.specs.Values.{table-of, entries-of, good-width, GoodTable}
+use Rattle.tables.specs.Values.{zeros-of, table-of, entries-of, good-width, GoodTable}
 use Rattle.tables.proofs.Arrays.{holds-is}
 
-pub empty-table : (l : ℕ) → table-of l [] ≡ record { l = l; n = 0; care = replicate 256 0; value = replicate 256 0 }
+pub empty-table : (l : ℕ) → table-of l [] ≡ zeros-of l 0
 unfolding table-of list-words padded
 empty-table l = refl
 
-pub star-table : (l : ℕ) → table-of l (stars l ∷ []) ≡ record { l = l; n = 1; care = replicate 256 0; value = replicate 256 0 }
+pub star-table : (l : ℕ) → table-of l (stars l ∷ []) ≡ zeros-of l 1
 unfolding table-of list-words padded
 star-table l =
     ap

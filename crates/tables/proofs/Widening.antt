@@ -146,9 +146,9 @@ fixed-below i [] h = absurd (false≢true h)
 fixed-below zero (t ∷ y) h = omega arith
 fixed-below (suc i) (t ∷ y) h = let k = fixed-below i y h in omega arith
 
-and-left : (a b : Bool) → (a && b) ≡ true → a ≡ true
-and-left true b h = refl
-and-left false b h = h
+both-true : (a b : Bool) → (a && b) ≡ true → a ≡ true
+both-true true b h = refl
+both-true false b h = h
 
 module _ (l : ℕ) (τ : Entries) (s : Trits) (z : Entry) (i : ℕ) (w : Widened l τ s z i) (wide : Wide l τ) where
   abbrev t : Trits
@@ -199,7 +199,7 @@ module _ (l : ℕ) (τ : Entries) (s : Trits) (z : Entry) (i : ℕ) (w : Widened
 
     pub fixed-there : fixed (i + skip) t ≡ true
     fixed-there =
-        and-left (fixed (i + skip) t) (subsumed τ (flipped (i + skip) t)) (sym (open-at τ t (i + skip) wide-t) ∙ open-there)
+        both-true (fixed (i + skip) t) (subsumed τ (flipped (i + skip) t)) (sym (open-at τ t (i + skip) wide-t) ∙ open-there)
 
     -- an open position is one of the l
     pub widened-inside : i + skip < l

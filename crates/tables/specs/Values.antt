@@ -38,9 +38,13 @@ table-of l τ = record {
 unfoldable pub entries-of : Table → Entries
 entries-of t = strings (t .l) (t .care) (t .value) (t .n)
 
+-- A count of n, and all words 0.
+abbrev pub zeros-of : ℕ → ℕ → Table
+zeros-of l n = record { l = l; n = n; care = replicate limit 0; value = replicate limit 0 }
+
 -- l, count and entries all 0: what a refusal returns where no table value came in.
 unfoldable pub zero-table : Table
-zero-table = record { l = 0; n = 0; care = replicate limit 0; value = replicate limit 0 }
+zero-table = zeros-of 0 0
 
 -- ---- Answers
 

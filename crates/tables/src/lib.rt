@@ -4,10 +4,12 @@ pub mod lists;
 
 use lists::Grown;
 ghost use mathlib.Core.Path.{_≡_};
+ghost use mathlib.Core.Bool.{cond};
 ghost use mathlib.Core.List.{[], _∷_};
 ghost use Rattle.model.specs.Strings.{stars};
 ghost use Rattle.tables.specs.Refusals.{refusal-number, answer-number};
-ghost use Rattle.tables.specs.Values.{zero-table, refuses, good-width, check-table, GoodTable, of-width, convert-call};
+ghost use Rattle.tables.specs.Values.{zeros-of, zero-table, accepts, refuses, good-width, check-table, GoodTable, of-width};
+ghost use Rattle.tables.specs.Values.{convert-call};
 
 // A table value: l variables, n entries in order, and zeros past the count. Bit i - 1 of a word is for Xi.
 #[repr(C)]
@@ -33,6 +35,7 @@ pub enum Refusal {
     Keep,
 }
 
+// What a call answers.
 pub enum Answer {
     Accepted,
     Refused(Refusal),
@@ -74,9 +77,10 @@ pub fn answer_number(a: Answer) -> u32
 }
 
 impl Table {
-    // The most entries and the most variables of a table.
+    // The most entries of a table.
     pub const ENTRIES: usize = 256;
 
+    // The most variables of a table.
     pub const VARIABLES: u32 = 16;
 
     // The table that a refusal returns where none came in.
@@ -95,36 +99,14 @@ impl Table {
     pub fn empty(l: u32) -> Answered
         ensures { λ r. ⌜ r ≡ of-width l [] ⌝ }
     {
-        if !good_width(l) {
-            return refused(Refusal::Width);
-        }
-        Answered {
-            answer: Answer::Accepted,
-            table: Table {
-                l: l,
-                n: 0,
-                care: [0; 256],
-                value: [0; 256],
-            },
-        }
+        of_zeros(l, 0)
     }
 
     // The table of l variables whose one entry is all `*`: its two words are 0.
     pub fn all_star(l: u32) -> Answered
         ensures { λ r. ⌜ r ≡ of-width l (stars l ∷ []) ⌝ }
     {
-        if !good_width(l) {
-            return refused(Refusal::Width);
-        }
-        Answered {
-            answer: Answer::Accepted,
-            table: Table {
-                l: l,
-                n: 1,
-                care: [0; 256],
-                value: [0; 256],
-            },
-        }
+        of_zeros(l, 1)
     }
 }
 
@@ -133,6 +115,24 @@ pub fn good_width(l: u32) -> bool
     ensures { λ r. ⌜ r ≡ good-width l ⌝ }
 {
     (0 < l) & (l <= Table::VARIABLES)
+}
+
+// The table of l variables with a count of n and all words 0, or 2 for a bad width.
+fn of_zeros(l: u32, n: usize) -> Answered
+    ensures { λ r. ⌜ r ≡ cond (good-width l) (accepts (zeros-of l n)) (refuses Refusal.Width zero-table) ⌝ }
+{
+    if !good_width(l) {
+        return refused(Refusal::Width);
+    }
+    Answered {
+        answer: Answer::Accepted,
+        table: Table {
+            l: l,
+            n: n,
+            care: [0; 256],
+            value: [0; 256],
+        },
+    }
 }
 
 // A refusal where no table value came in.

@@ -13,9 +13,9 @@ ghost use Rattle.model.specs.Strings.{subsumes};
 ghost use Rattle.model.specs.Growth.{Entries, subsumed as subsumed-list, remove, grow as grow-list};
 ghost use Rattle.model.specs.Growth.{widen as widen-list, grow-all as grow-all-list};
 ghost use Rattle.model.specs.Growth.{convert-one as convert-one-list, convert as convert-list};
-ghost use Rattle.words.specs.Words.{word, set, set-word};
+ghost use Rattle.words.specs.Words.{word, set, set-word, subsumes-words};
 ghost use Rattle.tables.specs.Lists.{Holds, OfString, any, open-set, Passes, Within, Leaves};
-ghost use Rattle.tables.specs.Values.{all-clean, zero-past, all-below as all-below-list};
+ghost use Rattle.tables.specs.Values.{entry-at, all-from, all-clean, zero-past, all-below as all-below-list};
 
 // The new count of a list, or that it needs entry 257.
 pub enum Grown {
@@ -203,7 +203,9 @@ fn wider(a: Entry, b: Entry) -> Entry
 // Does a subsume each of the 8 strings from j on?
 fn subsumes_eight(ycare: &[u32; 256], yvalue: &[u32; 256], j: usize, a: Entry) -> bool
     requires { ⌜ j ≤ 248 ⌝ }
-    ensures { λ r. ⌜ (r ≡ true → Passes (now (ycare .entry)) (now (yvalue .entry)) a j (j + 8)) ⌝ }
+    ensures { λ r. ⌜
+        r ≡ all-from j 8 (λ i. subsumes-words a (entry-at (now (ycare .entry)) (now (yvalue .entry)) i))
+        ⌝ }
 {
     let end = j + 8;
     let mut all = true;

@@ -43,10 +43,6 @@ unfolding string
 string-length zero e = refl
 string-length (suc l) e = ap suc (string-length l _)
 
--- the words of a string of l positions encode it
-pub word-encodes : (l : ℕ) (s : Trits) → length s ≡ l → Encodes l (word s)
-word-encodes l s e = rw (← e) (ap word (sym (string-word s)))
-
 pub string-of-word : (l : ℕ) (e : Entry) (s : Trits) → length s ≡ l → e ≡ word s → string l e ≡ s
 string-of-word l e s n d = rw (← n, d) (string-word s)
 

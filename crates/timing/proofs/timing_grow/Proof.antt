@@ -1,6 +1,6 @@
 use mathlib.Core.Path.{refl}
 use borrow.Author.Tests.{not-true, not-false, leb-true}
-use Rattle.tables.proofs.Converting.{and-left}
+use Rattle.tables.proofs.Converting.{both-true}
 use Rattle.tables.proofs.Toward.{within-count}
 use Rattle.timing.proofs.Ranges.{not-both, leaves-number, leaves-257}
 use borrow.Author.Needs.{needs}
@@ -12,8 +12,8 @@ returns c = (λ f. not-both f (not-true _ (c .if1 .taken)), λ f. (refl, refl, r
 
 grow-all-requires : tie.Need-grow-all-requires
 grow-all-requires c κs =
-    let t = and-left _ _ (not-false _ (c .before .before .if1 .left)) in
-    let u = and-left _ _ (t .0) in
+    let t = both-true _ _ (not-false _ (c .before .before .if1 .left)) in
+    let u = both-true _ _ (t .0) in
     (leb-true _ 256 (u .0), leb-true _ 32 (u .1), leb-true _ 256 (t .1))
 
 enum-known-k : tie.Need-enum-known-k

@@ -1,8 +1,9 @@
+use mathlib.Core.Path.{sym, _∙_}
 use Prim.Native.Nat.{_-_, _≤_}
 use native.Mathlib.Omega.{arith}
 use borrow.Author.Tests.{not-false}
 use Rattle.tables.specs.Lists.{Passes}
-use Rattle.tables.proofs.Passing.{passes-join}
+use Rattle.tables.proofs.Passing.{passes-join, passes-all}
 use borrow.Author.Needs.{needs}
 use Rattle.tables.proofs.lists.pass.Statement.{statement}
 use Rattle.tables.proofs.lists.pass.Tie as tie
@@ -38,7 +39,8 @@ loop-again c =
       omega arith,
       omega arith,
       passes-join (g .ycare .now) (g .yvalue .now) _ _ (lp .k) _ (lp .inv .2)
-          (c .before .subsumes-eight .ensures (not-false _ (c .if1 .left))),
+          (passes-all (g .ycare .now) (g .yvalue .now) _ (lp .k) 8
+          (sym (c .before .subsumes-eight .ensures) ∙ not-false _ (c .if1 .left))),
     )
 
 returns-2 : tie.Need-returns-2 Inv-loop μ-loop

@@ -1,15 +1,18 @@
-use mathlib.Core.Path.{_≡_}
-use mathlib.Core.Bool.{true}
+use mathlib.Core.Path.{_≡_, refl}
+use mathlib.Core.Bool.{_&&_}
 use Prim.Native.Nat.{_-_, _≤_}
 use native.Mathlib.Omega.{arith}
-use Rattle.tables.specs.Lists.{Passes}
-use Rattle.tables.proofs.Passing.{passes-turn}
+use Rattle.words.specs.Words.{subsumes-words}
+use Rattle.tables.specs.Values.{entry-at, all-from}
+use Rattle.tables.proofs.Checking.{scan-whole, scan-turn, scan-end}
 use borrow.Author.Needs.{needs}
 use Rattle.tables.proofs.lists.subsumes_eight.Statement.{statement}
 use Rattle.tables.proofs.lists.subsumes_eight.Tie as tie
 
 abbrev Inv-loop : tie.InvT-loop
-Inv-loop ycare yvalue j a end all₀ i₀ all i = (i ≤ end) × (all ≡ true → Passes ycare yvalue a j i)
+Inv-loop ycare yvalue j a end all₀ i₀ all i =
+    (i ≤ end) × (all-from j 8 (λ m. subsumes-words a (entry-at ycare yvalue m)) ≡
+    (all && all-from i (end - i) (λ m. subsumes-words a (entry-at ycare yvalue m))))
 
 abbrev μ-loop : tie.MeasureT-loop
 μ-loop ycare yvalue j a end all₀ i₀ all i = end - i
@@ -18,7 +21,7 @@ add-end : tie.Need-add-end Inv-loop μ-loop
 add-end c = search needs
 
 loop-holds : tie.Need-loop-holds Inv-loop μ-loop
-loop-holds c = (omega arith, λ e i h k. absurd (omega arith))
+loop-holds c = (omega arith, scan-whole _ _ 8 _ refl)
 
 mul-t10 : tie.Need-mul-t10 Inv-loop μ-loop
 mul-t10 c = search needs
@@ -44,16 +47,10 @@ loop-less c = search needs
 loop-again : tie.Need-loop-again Inv-loop μ-loop
 loop-again c =
     let lp = c .before .before .before .before .loop in
-    let g = c .before .before .before .before .before .args in (
-      omega arith,
-      λ e. passes-turn (g .ycare .now) (g .yvalue .now) _ _ (lp .i) (lp .all) _ (lp .inv .1)
-          (c .subsumes .ensures .0) e,
-    )
+    (omega arith, scan-turn _ _ (lp .all) (lp .i) _ (omega arith) (lp .inv .1) _ (c .subsumes .ensures .0))
 
 returns : tie.Need-returns Inv-loop μ-loop
-returns c =
-    let lp = c .before .loop in
-    λ e i h k. lp .inv .1 e i h (omega arith)
+returns c = let lp = c .before .loop in scan-end _ _ (lp .all) (lp .i) _ (omega arith) (lp .inv .1)
 
 pub subsumes-eight-spec : {M : Type 1} → statement M
 subsumes-eight-spec =
