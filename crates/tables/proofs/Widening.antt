@@ -23,6 +23,7 @@ use Rattle.words.specs.Words.{word, string, Encodes, set-word, openings}
 use Rattle.words.proofs.Codec.{string-length, string-of-word, set-word-or, set-word-drop, First, trailing-first, empty-none}
 use Rattle.words.proofs.OpeningLaws.{openings-at}
 use Rattle.tables.specs.Lists.{Holds, open-set}
+use Rattle.tables.proofs.Converting.{both-true}
 
 -- ---- The open positions
 
@@ -146,10 +147,6 @@ fixed-below i [] h = absurd (false≢true h)
 fixed-below zero (t ∷ y) h = omega arith
 fixed-below (suc i) (t ∷ y) h = let k = fixed-below i y h in omega arith
 
-both-true : (a b : Bool) → (a && b) ≡ true → a ≡ true
-both-true true b h = refl
-both-true false b h = h
-
 module _ (l : ℕ) (τ : Entries) (s : Trits) (z : Entry) (i : ℕ) (w : Widened l τ s z i) (wide : Wide l τ) where
   abbrev t : Trits
   t = string l z
@@ -199,7 +196,7 @@ module _ (l : ℕ) (τ : Entries) (s : Trits) (z : Entry) (i : ℕ) (w : Widened
 
     pub fixed-there : fixed (i + skip) t ≡ true
     fixed-there =
-        both-true (fixed (i + skip) t) (subsumed τ (flipped (i + skip) t)) (sym (open-at τ t (i + skip) wide-t) ∙ open-there)
+        both-true (fixed (i + skip) t) (subsumed τ (flipped (i + skip) t)) (sym (open-at τ t (i + skip) wide-t) ∙ open-there) .0
 
     -- an open position is one of the l
     pub widened-inside : i + skip < l
