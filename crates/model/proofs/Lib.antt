@@ -6,6 +6,7 @@ pub mod Given
 pub mod Growth
 pub mod Shape
 pub mod Overflow
+pub mod Fullness
 pub mod GrowthRule
 pub mod Candidates
 pub mod Closing

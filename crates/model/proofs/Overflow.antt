@@ -12,15 +12,12 @@ use Rattle.model.specs.Groups.{Bits, nonzero}
 use Rattle.model.specs.Strings.{Trits, subsumes, all-zero, exactly}
 use Rattle.model.specs.Growth.{_>>=_, Entries, limit, fold, subsumed, remove, append, grow, grow-all, widen, widen-grow}
 use Rattle.model.specs.Growth.{convert-one, convert, Overflows}
+use Rattle.model.specs.Full.{Full}
 use Rattle.model.proofs.Tests.{true-of, false-of}
 use Rattle.model.proofs.Given.{fold-append}
 use Rattle.model.proofs.Shape.{snoc-length}
 
--- y is to be appended to 256 entries or more
-abbrev Full : Entries → Trits → Type 0
-Full τ y = ¬ (T (all-zero y || subsumed τ y)) × (limit ≤ length (remove y τ))
-
-grow-none : (τ : Entries) (y : Trits) → grow τ y ≡ none → Full τ y
+pub grow-none : (τ : Entries) (y : Trits) → grow τ y ≡ none → Full τ y
 unfolding grow append
 grow-none τ y = go (all-zero y || subsumed τ y) (ltb (length (remove y τ)) limit) (nltb→le (length (remove y τ)) limit)
   where
@@ -31,7 +28,7 @@ grow-none τ y = go (all-zero y || subsumed τ y) (ltb (length (remove y τ)) li
     go false true f e = absurd (let z : _≡_ {A = ℕ} 0 1 = cc in omega arith)
     go false false f e = (λ t. t, f tt)
 
-full-none : (τ : Entries) (y : Trits) → Full τ y → grow τ y ≡ none
+pub full-none : (τ : Entries) (y : Trits) → Full τ y → grow τ y ≡ none
 unfolding grow append
 full-none τ y f =
     rw (

@@ -1,6 +1,6 @@
 -- The check of a table value: its scans, and that an accepted value holds its own list. Assumes nothing.
 use mathlib.Core.Path.{_≡_, refl, sym, ap, ap₂, _∙_, subst}
-use mathlib.Core.Bool.{Bool, true, _&&_, and-assoc, and-true}
+use mathlib.Core.Bool.{Bool, true, false, _&&_, cond, and-assoc, and-true}
 use mathlib.Core.List.{List, [], _∷_, _++_, map}
 use Prim.Native.Nat.{ℕ, zero, suc, _+_, _-_, _^_, _≤_, _<_}
 use native.Mathlib.Nat.{not-suc-le-zero, le-of-suc-le-suc, zero-add, add-zero, suc-add}
@@ -19,6 +19,7 @@ use Rattle.words.specs.Words.{word, care-of, value-of, string, Encodes}
 use Rattle.words.proofs.Codec.{clean-encodes, string-length, care-lt, value-in}
 use Rattle.tables.specs.declared.Table.{Table}
 use Rattle.tables.specs.declared.Refusal.{Refusal}
+use Rattle.tables.specs.declared.Refusal.the-variants as R
 use Rattle.tables.specs.declared.Answer.the-variants.{Accepted, Refused}
 use Rattle.tables.specs.Lists.{zero-entry, padded, list-words, Holds, pairs, strings}
 use Rattle.tables.specs.Values.{clean, is-zero, entry-at, all-from, all-clean, zero-past, good-width, table-of, entries-of}
@@ -241,7 +242,25 @@ module _ (t : Table) {r : Refusal} where
       → (Refused r ≡ check-table t) × ((Refused r ≡ Accepted → GoodTable t) × (GoodTable t → Refused r ≡ Accepted))
   told-refused e = (e, (λ q. absurd (let z : _≡_ {A = ℕ} 0 1 = cc in omega arith), λ g. e ∙ good-passes t g))
 
-pub told-accepted : (t : Table) → Accepted ≡ check-table t → good-width (t .l) ≡ true
-    → Holds (t .l) (t .care) (t .value) (t .n) (entries-of t)
+-- an answer of the three tests that accepts
+all-passed : (a b c : Bool)
+    → cond a (cond b (cond c Accepted (Refused R.Stray)) (Refused R.Entries)) (Refused R.Width) ≡ Accepted
+    → (a ≡ true) × (b ≡ true) × (c ≡ true)
+all-passed true true true e = (refl, refl, refl)
+all-passed true true false e = absurd (let z : _≡_ {A = ℕ} 0 1 = cc in omega arith)
+all-passed true false c e = absurd (let z : _≡_ {A = ℕ} 0 1 = cc in omega arith)
+all-passed false b c e = absurd (let z : _≡_ {A = ℕ} 0 1 = cc in omega arith)
+
+-- What the check accepts is a good table value, where the arrays have their 256 words.
+pub passes-good : (t : Table) → length (t .care) ≡ limit → length (t .value) ≡ limit → check-table t ≡ Accepted → GoodTable t
+unfolding check-table entries-of
+passes-good t cs vs e =
+    let clean = all-clean (t .l) (t .n) (t .care) (t .value) in
+    let past = zero-past (t .n) (t .care) (t .value) in
+    let p = all-passed (good-width (t .l)) (leb (t .n) limit) (clean && past) e in
+    let b = both-true clean past (p .2) in
+    holds-good t (p .0) (checked-holds (t .l) (t .care) (t .value) (t .n) cs vs (leb-true (t .n) limit (p .1)) (b .0) (b .1))
+
+pub told-accepted : (t : Table) → length (t .care) ≡ limit → length (t .value) ≡ limit → Accepted ≡ check-table t
     → (Accepted ≡ check-table t) × ((Accepted ≡ Accepted → GoodTable t) × (GoodTable t → Accepted ≡ Accepted))
-told-accepted t e w h = (e, (λ q. holds-good t w h, λ g. refl))
+told-accepted t cs vs e = (e, (λ q. passes-good t cs vs (sym e), λ g. refl))

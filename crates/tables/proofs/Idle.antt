@@ -18,9 +18,9 @@ use Rattle.words.specs.Words.{word, set}
 use Rattle.words.proofs.Codec.{set-length, set-word-set}
 use Rattle.tables.specs.declared.lists.Grown.{Grown}
 use Rattle.tables.specs.declared.lists.Grown.the-variants.{Count}
-use Rattle.tables.specs.Lists.{strings, idle, Holds, Leaves, made}
+use Rattle.tables.specs.Lists.{strings, idle, Holds, Makes, makes}
 use Rattle.tables.proofs.Arrays.{holds-is}
-use Rattle.tables.proofs.Toward.{leaves-count}
+use Rattle.tables.proofs.Toward.{makes-count}
 use Rattle.tables.proofs.Converting.{group-word}
 
 -- ---- Subsumption
@@ -177,14 +177,14 @@ beside-next {l = l} {τ = τ} {τ′ = τ′} {w = w} {u = u} y long is e b d = 
     go true = record { string = y; long = long; is = is; stays = idle-grown τ y e }
     go false = record { string = b .string; long = b .long; is = b .is; stays = idle-kept τ y e (b .string) (b .stays) }
 
--- the same of what a call leaves
-pub beside-step : {l : ℕ} {care₀ value₀ care value : List ℕ} {r : Grown} {τ : Entries} {m : ℕ} {w u v : Entry} (y : Trits)
-    → Leaves l care₀ value₀ care value r (grow τ y) → r ≡ Count m → length y ≡ l → u ≡ word y → Beside l τ w
+-- the same of what a call makes
+pub beside-step : {l : ℕ} {care value : List ℕ} {r : Grown} {τ : Entries} {m : ℕ} {w u v : Entry} (y : Trits)
+    → Makes l care value r (grow τ y) → r ≡ Count m → length y ≡ l → u ≡ word y → Beside l τ w
     → v ≡ cond (ltb (u .care) (w .care)) u w → Beside l (strings l care value m) v
-beside-step y told e long is b d = let t = leaves-count told e in rw (holds-is (t .2)) (beside-next y long is (t .1) b d)
+beside-step y told e long is b d = let t = makes-count told e in rw (holds-is (t .2)) (beside-next y long is (t .1) b d)
 
 -- what growing by a string that it subsumes leaves
 pub beside-same : {l : ℕ} {care value : List ℕ} {n : ℕ} {τ : Entries} {w : Entry} (b : Beside l τ w) (y : Trits)
     → Holds l care value n τ
-    → subsumes (b .string) y ≡ true → Leaves l care value care value (Count n) (grow τ y)
-beside-same {τ = τ} b y h e = rw (idle-grow τ y (idle-narrow τ (b .string) y (rw e tt) (b .stays))) (made h)
+    → subsumes (b .string) y ≡ true → Makes l care value (Count n) (grow τ y)
+beside-same {τ = τ} b y h e = rw (idle-grow τ y (idle-narrow τ (b .string) y (rw e tt) (b .stays))) (makes h)

@@ -11,7 +11,7 @@ use lib.Seq.{drop-cons}
 use Rattle.model.specs.Growth.{_>>=_, fold, Entries, limit}
 use Rattle.tables.specs.declared.lists.Grown.{Grown}
 use Rattle.tables.specs.declared.lists.Grown.the-variants.{Count, Full}
-use Rattle.tables.specs.Lists.{Holds, strings, Within, Leaves, made, refused}
+use Rattle.tables.specs.Lists.{Holds, strings, Within, Makes, makes, stops, Leaves, made, refused}
 use Rattle.tables.proofs.Arrays.{holds-is, holds-own}
 
 -- ---- The fold, from an index on
@@ -32,17 +32,23 @@ module _ {S X : Type 0} (step : S → X → Option S) (s : S) (xs : List X) (i :
 
 -- ---- What a call leaves, by its answer
 
-pub leaves-count : {l : ℕ} {care₀ value₀ care value : List ℕ} {r : Grown} {o : Option Entries} {m : ℕ}
-    → Leaves l care₀ value₀ care value r o
-    → r ≡ Count m → (τ : Entries) × (o ≡ some τ) × Holds l care value m τ
-leaves-count {m = m} (made {n = n} {τ = τ} h) q = (τ, refl, let e : m ≡ n = cc in rw e h)
-leaves-count (refused a b) q = absurd (let z : _≡_ {A = ℕ} 0 1 = cc in omega arith)
+pub leaves-makes : {l : ℕ} {care₀ value₀ care value : List ℕ} {r : Grown} {o : Option Entries}
+    → Leaves l care₀ value₀ care value r o → Makes l care value r o
+leaves-makes (made h) = makes h
+leaves-makes (refused a b) = stops
 
-pub leaves-full : {l : ℕ} {care₀ value₀ care value : List ℕ} {r : Grown} {o : Option Entries}
-    → Leaves l care₀ value₀ care value r o
-    → r ≡ Full → o ≡ none
-leaves-full (made h) q = absurd (let z : _≡_ {A = ℕ} 0 1 = cc in omega arith)
-leaves-full (refused a b) q = refl
+pub makes-count : {l : ℕ} {care value : List ℕ} {r : Grown} {o : Option Entries} {m : ℕ} → Makes l care value r o
+    → r ≡ Count m → (τ : Entries) × (o ≡ some τ) × Holds l care value m τ
+makes-count {m = m} (makes {n = n} {τ = τ} h) q = (τ, refl, let e : m ≡ n = cc in rw e h)
+makes-count stops q = absurd (let z : _≡_ {A = ℕ} 0 1 = cc in omega arith)
+
+pub makes-full : {l : ℕ} {care value : List ℕ} {r : Grown} {o : Option Entries} → Makes l care value r o → r ≡ Full → o ≡ none
+makes-full (makes h) q = absurd (let z : _≡_ {A = ℕ} 0 1 = cc in omega arith)
+makes-full stops q = refl
+
+pub makes-leaves : {l : ℕ} {care₀ value₀ care value : List ℕ} {r : Grown} {o : Option Entries} {m : ℕ}
+    → Makes l care value r o → r ≡ Count m → Leaves l care₀ value₀ care value (Count m) o
+makes-leaves told e = let t = makes-count told e in rw (t .1) (made (t .2))
 
 pub within-count : {r : Grown} {m : ℕ} → Within r → r ≡ Count m → m ≤ limit
 within-count w e = rw e at w
@@ -60,18 +66,18 @@ module _ {X : Type 0} (l : ℕ) (step : Entries → X → Option Entries) (xs : 
   toward-start h e = record { list = holds-own h; rest = rw (holds-is h) e }
 
   module _ {care value : List ℕ} {n i : ℕ} (w : Toward care value n i) where
-    pub toward-end : {care₀ value₀ : List ℕ} → length xs ≤ i → Leaves l care₀ value₀ care value (Count n) whole
-    toward-end h = rw (sym (w .rest) ∙ fold-end step _ xs i h) (made (w .list))
+    pub toward-end : length xs ≤ i → Makes l care value (Count n) whole
+    toward-end h = rw (sym (w .rest) ∙ fold-end step _ xs i h) (makes (w .list))
 
     module _ (lt : i < length xs) {care′ value′ : List ℕ} {r : Grown}
-        (told : Leaves l care value care′ value′ r (step (strings l care value n) (getD xs i d))) where
+        (told : Makes l care′ value′ r (step (strings l care value n) (getD xs i d))) where
       pub toward-step : {m : ℕ} → r ≡ Count m → Toward care′ value′ m (i + 1)
       toward-step e =
-          let t = leaves-count told e in
+          let t = makes-count told e in
           record {
             list = holds-own (t .2);
             rest = rw (holds-is (t .2)) (sym (fold-step step _ xs i d lt _ (t .1)) ∙ w .rest);
           }
 
       pub toward-stop : r ≡ Full → whole ≡ none
-      toward-stop e = sym (w .rest) ∙ fold-stop step _ xs i d lt (leaves-full told e)
+      toward-stop e = sym (w .rest) ∙ fold-stop step _ xs i d lt (makes-full told e)

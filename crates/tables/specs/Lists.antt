@@ -75,6 +75,11 @@ abbrev pub Within : Grown → Type 0
 Within (Count n) = n ≤ limit
 Within Full = Unit {0}
 
+-- What a call makes and answers, by what it was to compute: the list and its count; or full, with nothing said of the arrays.
+pub data Makes (l : ℕ) (care value : List ℕ) : Grown → Option Entries → Type 0 where
+  makes : {n : ℕ} {τ : Entries} → Holds l care value n τ → Makes l care value (Count n) (some τ)
+  stops : Makes l care value Full none
+
 -- What a call leaves and answers, by what it was to compute: the list and its count; or full, and the arrays as they were.
 pub data Leaves (l : ℕ) (care₀ value₀ care value : List ℕ) : Grown → Option Entries → Type 0 where
   made : {n : ℕ} {τ : Entries} → Holds l care value n τ → Leaves l care₀ value₀ care value (Count n) (some τ)

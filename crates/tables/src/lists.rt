@@ -14,7 +14,7 @@ ghost use Rattle.model.specs.Growth.{Entries, subsumed as subsumed-list, remove
 ghost use Rattle.model.specs.Growth.{widen as widen-list, grow-all as grow-all-list};
 ghost use Rattle.model.specs.Growth.{convert-one as convert-one-list, convert as convert-list};
 ghost use Rattle.words.specs.Words.{word, set, set-word, subsumes-words};
-ghost use Rattle.tables.specs.Lists.{Holds, OfString, any, open-set, Passes, Within, Leaves};
+ghost use Rattle.tables.specs.Lists.{Holds, OfString, any, open-set, Passes, Within, Makes, Leaves};
 ghost use Rattle.tables.specs.Values.{entry-at, all-from, all-clean, zero-past, all-below as all-below-list};
 
 // The new count of a list, or that it needs entry 257.
@@ -237,9 +237,9 @@ fn pass(ycare: &[u32; 256], yvalue: &[u32; 256], j: usize, m: usize, a: Entry) -
     k
 }
 
-// Grows the list by each of the m entries of another list, in order. Where that is full, the list is put back as it was.
-// `idle` is a string by which growing changes nothing; nor does it by a string that `idle` subsumes, which spares its passes.
-pub fn grow_all(
+// Grows the list by each of the m entries of another list, in order, up to the first that is full. `idle` is a string by
+// which growing changes nothing; nor does it by a string that `idle` subsumes, which spares its passes.
+pub fn grow_each(
     care: &mut [u32; 256],
     value: &mut [u32; 256],
     n: usize,
@@ -253,11 +253,9 @@ pub fn grow_all(
     ensures list { λ r. ⌜
         ((τ ρ : Entries) → Holds l (now (care .entry)) (now (value .entry)) n τ
         → Holds l (now (ycare .entry)) (now (yvalue .entry)) m ρ
-        → Leaves l (now (care .entry)) (now (value .entry)) (now (care .exit)) (now (value .exit)) r (grow-all-list τ ρ))
+        → Makes l (now (care .exit)) (now (value .exit)) r (grow-all-list τ ρ))
         ⌝ }
 {
-    let care_before = *care;
-    let value_before = *value;
     let mut k = n;
     let mut idle = Entry {
         care: words::full(l),
@@ -278,8 +276,6 @@ pub fn grow_all(
                     k = c;
                 }
                 Grown::Full => {
-                    *care = care_before;
-                    *value = value_before;
                     return Grown::Full;
                 }
             }
@@ -287,6 +283,36 @@ pub fn grow_all(
         }
     }
     Grown::Count(k)
+}
+
+// The same. Where that is full, the list is put back as it was.
+pub fn grow_all(
+    care: &mut [u32; 256],
+    value: &mut [u32; 256],
+    n: usize,
+    l: u32,
+    ycare: &[u32; 256],
+    yvalue: &[u32; 256],
+    m: usize,
+) -> Grown
+    requires { ⌜ (n ≤ 256) × (l ≤ 32) × (m ≤ 256) ⌝ }
+    ensures within { λ r. ⌜ Within r ⌝ }
+    ensures list { λ r. ⌜
+        ((τ ρ : Entries) → Holds l (now (care .entry)) (now (value .entry)) n τ
+        → Holds l (now (ycare .entry)) (now (yvalue .entry)) m ρ
+        → Leaves l (now (care .entry)) (now (value .entry)) (now (care .exit)) (now (value .exit)) r (grow-all-list τ ρ))
+        ⌝ }
+{
+    let care_before = *care;
+    let value_before = *value;
+    match grow_each(care, value, n, l, ycare, yvalue, m) {
+        Grown::Count(k) => Grown::Count(k),
+        Grown::Full => {
+            *care = care_before;
+            *value = value_before;
+            Grown::Full
+        }
+    }
 }
 
 // Widens and grows the string of 0 and 1 with the word w; a zero string is skipped.

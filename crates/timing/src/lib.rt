@@ -1,4 +1,4 @@
-// Entry points of the benchmark: they time inner functions of `tables` and are no part of the library's calls.
+// Entry points of the benchmark: no part of the library's calls.
 use tables::Table;
 use tables::lists::Grown;
 ghost use mathlib.Core.Path.{_≡_};
@@ -6,6 +6,7 @@ ghost use mathlib.Core.Bool.{true, false};
 ghost use Rattle.model.specs.Growth.{Entries, grow-all};
 ghost use Rattle.tables.specs.Lists.{Holds, Leaves};
 ghost use Rattle.tables.specs.Values.{convert-call};
+ghost use Rattle.sharing.specs.Calls.{side-told, equation-call};
 ghost use Rattle.timing.specs.Timed.{numbered, fits, grown};
 
 // An answer as a number, with the table that goes with it.
@@ -21,6 +22,22 @@ pub extern "C" fn timing_convert(l: u32, words: &[u32]) -> Timed
     ensures { λ r. ⌜ r ≡ numbered (convert-call l (now (words .entry))) ⌝ }
 {
     let a = tables::convert(l, words);
+    let answer = a.answer;
+    let table = a.table;
+    let code = tables::answer_number(answer);
+    Timed {
+        code: code,
+        table: table,
+    }
+}
+
+// An equation on a table value. The side is told by a number: 0 is positive, any other negative.
+#[no_mangle]
+pub extern "C" fn timing_equation(side: u32, t: Table, x: u32, ts: &[u16]) -> Timed
+    ensures { λ r. ⌜ r ≡ numbered (equation-call (side-told side) t x (now (ts .entry))) ⌝ }
+{
+    let s = sharing::side_numbered(side);
+    let a = sharing::equation(s, t, x, ts);
     let answer = a.answer;
     let table = a.table;
     let code = tables::answer_number(answer);

@@ -57,17 +57,17 @@ returns-4 c =
     ))
 
 returns-5 : tie.Need-returns-5
-unfolding check-table entries-of
+unfolding check-table
 returns-5 c =
     let start = c .before .before .before .before .before .before .before .before .before .before in
     let scan = c .before .before .before .before in
-    let w = sym (start .before .before .good-width .ensures) ∙ not-false _ (start .before .if1 .left) in
-    let a = sym (scan .before .all-clean .ensures) ∙ not-false _ (scan .if3 .left) in
-    let z = sym (c .before .zero-past .ensures) ∙ not-false _ (c .if4 .left) in
-    told-accepted _
-    (rw (w, le-leb _ 256 (start .if2 .left), a, z))
-    w
-    (checked-holds _ _ _ _ (search needs) (search needs) (start .if2 .left) a z)
+    told-accepted _ (search needs) (search needs)
+    (rw (
+      sym (start .before .before .good-width .ensures) ∙ not-false _ (start .before .if1 .left),
+      le-leb _ 256 (start .if2 .left),
+      sym (scan .before .all-clean .ensures) ∙ not-false _ (scan .if3 .left),
+      sym (c .before .zero-past .ensures) ∙ not-false _ (c .if4 .left),
+    ))
 
 pub check-spec : {M : Type 1} → statement M
 check-spec =

@@ -3,7 +3,7 @@ use native.Mathlib.Omega.{arith}
 use borrow.Author.Tests.{not-true, not-false}
 use Rattle.tables.specs.Values.{accepts, convert-call, made-or-full}
 use Rattle.tables.proofs.Values.{holds-empty, table-is}
-use Rattle.tables.proofs.Toward.{leaves-count, leaves-full}
+use Rattle.tables.proofs.Toward.{leaves-makes, makes-count, makes-full}
 use Rattle.tables.proofs.Checking.{width-most}
 use borrow.Author.Needs.{needs}
 use Rattle.tables.proofs.convert.Statement.{statement}
@@ -55,7 +55,7 @@ returns-3 c =
     let below = sym (c .before .before .before .before .before .before .before .all-below .ensures) ∙ not-false _
     (c .before .before .before .before .before .before .if2 .left) in
     let told = c .before .before .before .convert .ensures .1 (holds-empty _) below in
-    let made = leaves-count told (c .before .n .given .1) in
+    let made = makes-count (leaves-makes told) (c .before .n .given .1) in
     rw (
       sym (c .before .before .before .before .before .before .before .before .before .good-width .ensures) ∙ not-false _
           (c .before .before .before .before .before .before .before .before .if1 .left),
@@ -75,7 +75,7 @@ returns-4 c =
       sym (c .before .before .before .before .before .before .before .before .before .good-width .ensures)
           ∙ not-false _ (c .before .before .before .before .before .before .before .before .if1 .left),
       below,
-      leaves-full told
+      makes-full (leaves-makes told)
           (c .before .enum-told .given .1),
     )
 

@@ -10,6 +10,7 @@ use Rattle.tables.specs.Lists.{Holds, refused}
 use Rattle.tables.specs.Values.{all-below}
 use Rattle.tables.proofs.Converting.{row-word, row-length}
 use Rattle.tables.proofs.Toward.{Toward, toward-start, toward-step, toward-stop, toward-end, within-count}
+use Rattle.tables.proofs.Toward.{leaves-makes, makes-leaves}
 use borrow.Author.Needs.{needs}
 use Rattle.tables.proofs.lists.convert.Statement.{statement}
 use Rattle.tables.proofs.lists.convert.Tie as tie
@@ -49,8 +50,8 @@ returns c = (
       let ws = c .before .before .before .before .before .before .before .before .before .before .before .args .words in
       let lp = c .before .before .before .before .before .before .before .loop in
       let w = lp .inv .2 h b in
-      let told = c .before .before .convert-one .ensures .1 _ _ (w .list) (row-length _ (ws .now) (lp .i))
-      (row-word _ (ws .now) (lp .i) b (omega arith)) in
+      let told = leaves-makes (c .before .before .convert-one .ensures .1 _ _ (w .list) (row-length _ (ws .now) (lp .i))
+      (row-word _ (ws .now) (lp .i) b (omega arith))) in
       rw (toward-stop _ convert-one _ _ _ w (rw length-map (omega arith)) told (c .enum-told .given .1)) (refused refl refl),
 )
 
@@ -69,15 +70,15 @@ loop-again c =
       within-count (g .ensures .0) (c .before .k .given .1),
       λ h b.
           let w = lp .inv .2 h b in
-          let told = g .ensures .1 _ _ (w .list) (row-length _ (ws .now) (lp .i))
-          (row-word _ (ws .now) (lp .i) b (omega arith)) in
+          let told = leaves-makes (g .ensures .1 _ _ (w .list) (row-length _ (ws .now) (lp .i))
+          (row-word _ (ws .now) (lp .i) b (omega arith))) in
           toward-step _ convert-one _ _ _ w (rw length-map (omega arith)) told (c .before .k .given .1),
     )
 
 returns-2 : tie.Need-returns-2 Inv-loop μ-loop
 returns-2 c =
     let lp = c .before .loop in
-    (lp .inv .1, λ h b. toward-end _ convert-one _ _ _ (lp .inv .2 h b) (rw length-map (omega arith)))
+    (lp .inv .1, λ h b. makes-leaves (toward-end _ convert-one _ _ _ (lp .inv .2 h b) (rw length-map (omega arith))) refl)
 
 pub convert-spec : {M : Type 1} → statement M
 convert-spec =

@@ -1,0 +1,81 @@
+-- What the six rows hold at the end of their loops, and the tests and words that they are made with. Assumes nothing.
+use mathlib.Core.Path.{_≡_, refl, sym, ap}
+use mathlib.Core.Bool.{Bool, Bool·beq, true, false, not, _&&_, cond}
+use mathlib.Core.List.{List, [], _∷_, _++_, map}
+use Prim.Native.Nat.{ℕ, zero, suc, _+_, _*_, _/_, _%_, _^_, _≤_, _<_}
+use native.Mathlib.Nat.{not-suc-le-zero, le-of-suc-le-suc, pow-suc}
+use native.Mathlib.Omega.{arith}
+use lib.Arith.{digits-mod}
+use lib.Dec.{eqb}
+use lib.ListN.{length, getD, drop}
+use lib.Seq.{drop-cons}
+use Rattle.model.specs.Groups.{Bits}
+use Rattle.model.specs.Strings.{Trits, matches, meet, fixed, opposed, one-at, ones, pieces}
+use Rattle.model.specs.Growth.{Entries}
+use Rattle.model.specs.Tables.{Wide, meet-if, meets-with, meets-of}
+use Rattle.model.proofs.Candidates.{meets-of-wide}
+use Rattle.words.specs.declared.Entry.{Entry}
+use Rattle.words.specs.Words.{care-of, value-of, word, set-word}
+use Rattle.words.proofs.Codec.{bit-lt, bit-back, set-word-drop, stars-word}
+use Rattle.tables.specs.Lists.{Holds}
+use Rattle.candidates.specs.Rows.{selected}
+use Rattle.candidates.proofs.Filling.{Filling, fill-end, Along, along-end}
+
+-- ---- Along a list
+
+module _ {l : ℕ} {care value : List ℕ} {n : ℕ} {τ : Entries} (h : Holds l care value n τ) {ocare ovalue : List ℕ} where
+  pub map-end : {m i : ℕ} (f : Trits → Trits) → Along m (λ y. true) f τ n ocare ovalue i i → i ≤ n → n ≤ i
+      → Holds m ocare ovalue n (map f τ)
+  map-end {i = i} f w most all =
+      let e : n ≡ i = omega arith in
+      rw e (along-end (λ y. true) f (map f) refl (λ y τ. refl) h w all)
+
+  pub meets-end : {k i : ℕ} (s : Trits) → Along l (matches s) (meet s) τ n ocare ovalue k i → n ≤ i
+      → Holds l ocare ovalue k (meets-with s τ)
+  unfolding meets-with meet-if
+  meets-end s w all = along-end (matches s) (meet s) (meets-with s) refl (λ r ρ. in-front (matches s r) (meet s r) _) h w all
+    where
+      in-front : (b : Bool) (y : Trits) (ys : List Trits) → cond b (y ∷ []) [] ++ ys ≡ cond b (y ∷ ys) ys
+      in-front true y ys = refl
+      in-front false y ys = refl
+
+  pub selected-end : {k i : ℕ} (b : Bool) (v : Trits)
+      → Along l (λ y. Bool·beq (matches y v) b) (λ y. y) τ n ocare ovalue k i → n ≤ i
+      → Holds l ocare ovalue k (selected b v τ)
+  unfolding selected
+  selected-end b v w all = along-end (λ y. Bool·beq (matches y v) b) (λ y. y) (selected b v) refl (λ y τ. refl) h w all
+
+-- the meet of two matching strings has their length
+pub meet-length : (l : ℕ) (s r : Trits) → matches s r ≡ true → length s ≡ l → length r ≡ l → length (meet s r) ≡ l
+unfolding meets-of meets-with meet-if Wide
+meet-length l s r t d e = (rw t at (meets-of-wide l (s ∷ []) (r ∷ []) (d, tt) (e, tt))) .0
+
+-- ---- Along the positions
+
+module _ {l : ℕ} {ocare ovalue : List ℕ} {k i : ℕ} where
+  pub ones-end : (g : Bits) → length g ≡ l → Filling l (λ j. getD g j false) (one-at l) l ocare ovalue k i → l ≤ i
+      → Holds l ocare ovalue k (ones g)
+  unfolding ones
+  ones-end g e w all = rw e (fill-end w all)
+
+  pub pieces-end : (s t : Trits) → length s ≡ l
+      → Filling l (λ j. not (fixed j s) && fixed j t) (λ j. opposed j t s) l ocare ovalue k i → l ≤ i
+      → Holds l ocare ovalue k (pieces s t)
+  unfolding pieces
+  pieces-end s t e w all = rw e (fill-end w all)
+
+-- a position of a set is a bit of its word
+pub set-bit : (g : Bits) (i : ℕ) → i < length g → getD g i false ≡ eqb (set-word g / 2 ^ i % 2) 1
+unfolding set-word
+set-bit g i lt =
+    sym (rw (set-word-drop i g, drop-cons g i false lt, digits-mod (set-word (drop (suc i) g)) (bit-lt (getD g i false)))
+    (bit-back (getD g i false)))
+
+-- the string with one 1 has that bit alone
+pub one-word : (l i : ℕ) → i < l → word (one-at l i) ≡ record { care = 2 ^ i; value = 2 ^ i }
+unfolding one-at care-of value-of
+one-word zero i lt = absurd (not-suc-le-zero lt)
+one-word (suc l) zero lt = ap (λ (e : Entry). record { care = e .care * 2 + 1; value = e .value * 2 + 1 }) (stars-word l)
+one-word (suc l) (suc i) lt =
+    let d : 2 ^ suc i ≡ 2 ^ i * 2 + 0 = omega (arith, pow-suc 2 i) in
+    rw d (ap (λ (e : Entry). record { care = e .care * 2 + 0; value = e .value * 2 + 0 }) (one-word l i (le-of-suc-le-suc lt)))

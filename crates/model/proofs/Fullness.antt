@@ -1,0 +1,135 @@
+-- A procedure gives nothing exactly where some list of the growth rule in it needs entry 257. Assumes nothing.
+use mathlib.Core.Path.{_≡_, refl, ap}
+use mathlib.Core.List.{List, [], _∷_, _++_, map}
+use mathlib.Core.Logic.{inl, inr, ⊎-elim, _↔_}
+use mathlib.Core.Option.{Option, some, none}
+use Prim.Native.Nat.{ℕ}
+use native.Mathlib.Omega.{arith}
+use Rattle.model.specs.Groups.{Bits, or, cut}
+use Rattle.model.specs.Strings.{Trits, zeros, ones, stars}
+use Rattle.model.specs.Growth.{_>>=_, fold, Entries, grow, grow-all, widen, widen-grow, Overflows}
+use Rattle.model.specs.Tables.{Side, positive, negative, meets-of, ors, unmatched, pieces-of, relevant, irrelevant, cross}
+use Rattle.model.specs.Tables.{close-with, close, take-away, change-side, positive-equation, negative-equation}
+use Rattle.model.specs.Tables.{equation-of-sets, join, kept, positive-projection, projection}
+use Rattle.model.specs.Full.{Full, Meets, OrLater, CloseFull, ChangeFull, PositiveFull, NegativeFull, EquationFull, JoinFull}
+use Rattle.model.specs.Full.{ProjectionFull}
+use Rattle.model.proofs.Given.{fold-append}
+use Rattle.model.proofs.Overflow.{grow-none, full-none, full-exact}
+
+-- ---- One step after another
+
+none-some : {A : Type 0} {a : A} {P : Type 0} → some a ≡ none → P
+none-some e = absurd (let z : _≡_ {A = ℕ} 0 1 = cc in omega arith)
+
+-- F and G say where a step, and what goes on from it, give nothing
+module _ {A B F : Type 0} {G : A → Type 0} {k : A → Option B} where
+  then-full : {o : Option A} → (o ≡ none) ↔ F → ((a : A) → (k a ≡ none) ↔ G a) → ((o >>= k) ≡ none) ↔ OrLater F o G
+  unfolding _>>=_
+  then-full {o = none} f g = (λ e. inl (f .0 refl), λ h. refl)
+  then-full {o = some a} f g = (λ e. inr (a, refl, g a .0 e), ⊎-elim (λ h. none-some (f .1 h)) later)
+    where
+      later : ((b : A) × (some a ≡ some b) × G b) → k a ≡ none
+      later h = let e : a ≡ h .0 = (let e = h .1 in cc) in rw e (g (h .0) .1 (h .2))
+
+module _ {S X : Type 0} {F : S → X → Type 0} (step : S → X → Option S) (exact : (s : S) (x : X) → (step s x ≡ none) ↔ F s x) where
+  none-meets : (s : S) (xs : List X) → fold step s xs ≡ none → Meets F step s xs
+  unfolding fold _>>=_
+  none-meets s [] e = none-some e
+  none-meets s (x ∷ xs) e = go (step s x) refl (λ t. none-meets t xs) e
+    where
+      go : (o : Option S) → step s x ≡ o → ((t : S) → fold step t xs ≡ none → Meets F step t xs)
+          → (o >>= λ t. fold step t xs) ≡ none → Meets F step s (x ∷ xs)
+      go none d rest h = record {
+        before = [];
+        x = x;
+        after = xs;
+        state = s;
+        is = refl;
+        reached = refl;
+        full = exact s x .0 d;
+      }
+      go (some t) d rest h =
+          let m = rest t h in
+          record {
+            before = x ∷ m .before;
+            x = m .x;
+            after = m .after;
+            state = m .state;
+            is = ap (λ (r : List X). x ∷ r) (m .is);
+            reached = rw d (m .reached);
+            full = m .full;
+          }
+
+  meets-none : (s : S) (xs : List X) → Meets F step s xs → fold step s xs ≡ none
+  unfolding fold _>>=_
+  meets-none s xs m =
+      rw (m .is, fold-append step s (m .before) (m .x ∷ m .after), m .reached, exact (m .state) (m .x) .1 (m .full))
+
+  fold-full : (s : S) (xs : List X) → (fold step s xs ≡ none) ↔ Meets F step s xs
+  fold-full s xs = (none-meets s xs, meets-none s xs)
+
+-- ---- The procedures
+
+grow-full : (τ : Entries) (y : Trits) → (grow τ y ≡ none) ↔ Full τ y
+grow-full τ y = (grow-none τ y, full-none τ y)
+
+widen-grow-full : (τ : Entries) (y : Trits) → (widen-grow τ y ≡ none) ↔ Full τ (widen τ y)
+unfolding widen-grow
+widen-grow-full τ y = grow-full τ (widen τ y)
+
+close-with-full : (R : Entries) (c : Trits) → (close-with R c ≡ none) ↔ Overflows R (ors R (c ∷ []) ++ (c ∷ []))
+unfolding close-with
+close-with-full R c = full-exact R (ors R (c ∷ []) ++ (c ∷ []))
+
+close-full : (cs : Entries) → (close cs ≡ none) ↔ CloseFull cs
+unfolding close
+close-full cs = fold-full close-with close-with-full [] cs
+
+pub change-full : (l : ℕ) (τ : Entries) → (change-side l τ ≡ none) ↔ ChangeFull l τ
+unfolding change-side take-away
+change-full l τ =
+    fold-full take-away (λ R v. fold-full widen-grow widen-grow-full (unmatched v R) (pieces-of v R)) (stars l ∷ []) τ
+
+cross-full : (α β : Entries) → (cross α β ≡ none) ↔ Overflows [] (ors α β)
+unfolding cross
+cross-full α β = full-exact [] (ors α β)
+
+positive-full : (x t : Bits) (τ : Entries) → (positive-equation x t τ ≡ none) ↔ PositiveFull x t τ
+unfolding positive-equation PositiveFull irrelevant relevant
+positive-full x t τ =
+    then-full (full-exact [] (meets-of τ (zeros (or x t) ∷ []))) (λ I.
+    then-full (full-exact [] (meets-of τ (ones x))) (λ A.
+    then-full (full-exact [] (meets-of τ (ones t))) (λ B.
+    then-full (cross-full A B) (λ C.
+    then-full (close-full C) (λ K. full-exact I K)))))
+
+negative-full : (l : ℕ) (x t : Bits) (τ : Entries) → (negative-equation l x t τ ≡ none) ↔ NegativeFull l x t τ
+unfolding negative-equation NegativeFull
+negative-full l x t τ =
+    then-full (grow-full τ (zeros x)) (λ P.
+    then-full (grow-full τ (zeros t)) (λ Q.
+    then-full (full-exact τ (ones (or x t))) (λ C.
+    then-full (change-full l P) (λ A.
+    then-full (change-full l Q) (λ B.
+    then-full (cross-full A B) (λ J.
+    then-full (close-full J) (λ R.
+    then-full (change-full l R) (λ K. full-exact [] (meets-of C K)))))))))
+
+-- Equation, of either side.
+pub equation-full : (side : Side) (l : ℕ) (x t : Bits) (τ : Entries) → (equation-of-sets side l x t τ ≡ none) ↔ EquationFull side l x t τ
+unfolding equation-of-sets EquationFull
+equation-full positive l x t τ = positive-full x t τ
+equation-full negative l x t τ = negative-full l x t τ
+
+-- Join, of either side.
+pub join-full : (side : Side) (τ ρ : Entries) → (join side τ ρ ≡ none) ↔ JoinFull side τ ρ
+unfolding join JoinFull
+join-full positive τ ρ = full-exact τ ρ
+join-full negative τ ρ = full-exact [] (meets-of τ ρ)
+
+-- Projection, of either side.
+pub projection-full : (side : Side) (l : ℕ) (k : Bits) (τ : Entries) → (projection side l k τ ≡ none) ↔ ProjectionFull side l k τ
+unfolding projection ProjectionFull positive-projection
+projection-full positive l k τ = full-exact [] (map (cut k) τ)
+projection-full negative l k τ =
+    then-full (change-full l τ) (λ P. then-full (full-exact [] (map (cut k) P)) (λ C. change-full (kept k) C))

@@ -1,0 +1,80 @@
+-- Where a procedure needs entry 257 (01, refusal 8): some list of the growth rule in it does.
+use mathlib.Core.Path.{_≡_}
+use mathlib.Core.List.{List, [], _∷_, _++_, map}
+use mathlib.Core.Logic.{_⊎_}
+use mathlib.Core.Option.{Option, some}
+use Prim.Native.Nat.{ℕ, _≤_}
+use lib.Dec.{T}
+use mathlib.Core.Bool.{_||_}
+use lib.ListN.{length}
+use Rattle.model.specs.Groups.{Bits, or, cut}
+use Rattle.model.specs.Strings.{Trits, all-zero, zeros, ones, stars}
+use Rattle.model.specs.Growth.{fold, Entries, limit, subsumed, remove, grow, grow-all, widen, widen-grow, Overflows}
+use Rattle.model.specs.Tables.{Side, positive, negative, meets-of, ors, unmatched, pieces-of, relevant, irrelevant, cross}
+use Rattle.model.specs.Tables.{close-with, close, take-away, change-side, kept, positive-projection}
+
+-- y is to be appended to 256 entries or more.
+abbrev pub Full : Entries → Trits → Type 0
+Full τ y = ¬ (T (all-zero y || subsumed τ y)) × (limit ≤ length (remove y τ))
+
+module _ {S X : Type 0} where
+  -- Some x of xs, in the state that those before it lead to, is one of which F holds.
+  pub record Meets (F : S → X → Type 0) (step : S → X → Option S) (s : S) (xs : List X) : Type 0 where
+    pub before : List X
+    pub x : X
+    pub after : List X
+    pub state : S
+    pub is : xs ≡ before ++ (x ∷ after)
+    pub reached : fold step s before ≡ some state
+    pub full : F state x
+
+-- F holds; or the list is made, and of it G holds.
+abbrev pub OrLater : {A : Type 0} → Type 0 → Option A → (A → Type 0) → Type 0
+OrLater F o G = F ⊎ ((a : _) × (o ≡ some a) × G a)
+
+-- Close: for some c, the list R grown by "r or c" for each r, then by c.
+abbrev pub CloseFull : Entries → Type 0
+CloseFull = Meets (λ R c. Overflows R (ors R (c ∷ []) ++ (c ∷ []))) close-with []
+
+-- Change of side: for some entry v, one of the strings formed, once it is widened.
+abbrev pub ChangeFull : ℕ → Entries → Type 0
+ChangeFull l =
+    Meets (λ R v. Meets (λ S y. Full S (widen S y)) widen-grow (unmatched v R) (pieces-of v R)) take-away (stars l ∷ [])
+
+-- Equation, positive: the irrelevant entries, the relevant ones of x and of t, their cross, its closure, or the last list.
+unfoldable pub PositiveFull : Bits → Bits → Entries → Type 0
+PositiveFull x t τ =
+    OrLater (Overflows [] (meets-of τ (zeros (or x t) ∷ []))) (irrelevant (or x t) τ) (λ I.
+    OrLater (Overflows [] (meets-of τ (ones x))) (relevant x τ) (λ A.
+    OrLater (Overflows [] (meets-of τ (ones t))) (relevant t τ) (λ B.
+    OrLater (Overflows [] (ors A B)) (cross A B) (λ C.
+    OrLater (CloseFull C) (close C) (λ K. Overflows I K)))))
+
+-- Equation, negative: P, Q, C, the two changes of side, the cross, its closure, the change back, or the last list.
+unfoldable pub NegativeFull : ℕ → Bits → Bits → Entries → Type 0
+NegativeFull l x t τ =
+    OrLater (Full τ (zeros x)) (grow τ (zeros x)) (λ P.
+    OrLater (Full τ (zeros t)) (grow τ (zeros t)) (λ Q.
+    OrLater (Overflows τ (ones (or x t))) (grow-all τ (ones (or x t))) (λ C.
+    OrLater (ChangeFull l P) (change-side l P) (λ A.
+    OrLater (ChangeFull l Q) (change-side l Q) (λ B.
+    OrLater (Overflows [] (ors A B)) (cross A B) (λ J.
+    OrLater (CloseFull J) (close J) (λ R.
+    OrLater (ChangeFull l R) (change-side l R) (λ K. Overflows [] (meets-of C K)))))))))
+
+-- Equation, of either side.
+unfoldable pub EquationFull : Side → ℕ → Bits → Bits → Entries → Type 0
+EquationFull positive l x t τ = PositiveFull x t τ
+EquationFull negative l x t τ = NegativeFull l x t τ
+
+-- Join, of either side.
+unfoldable pub JoinFull : Side → Entries → Entries → Type 0
+JoinFull positive τ ρ = Overflows τ ρ
+JoinFull negative τ ρ = Overflows [] (meets-of τ ρ)
+
+-- Projection, of either side.
+unfoldable pub ProjectionFull : Side → ℕ → Bits → Entries → Type 0
+ProjectionFull positive l k τ = Overflows [] (map (cut k) τ)
+ProjectionFull negative l k τ =
+    OrLater (ChangeFull l τ) (change-side l τ) (λ P.
+    OrLater (Overflows [] (map (cut k) P)) (positive-projection k P) (λ C. ChangeFull (kept k) C))

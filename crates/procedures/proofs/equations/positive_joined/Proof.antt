@@ -1,0 +1,72 @@
+use native.Mathlib.Omega.{arith}
+use Rattle.model.specs.Growth.{_>>=_}
+use Rattle.model.specs.Tables.{relevant}
+use Rattle.tables.proofs.Values.{holds-empty}
+use Rattle.tables.proofs.Toward.{within-count}
+use Rattle.procedures.specs.Parts.{closed-cross, positive-joined}
+use Rattle.procedures.proofs.Steps.{makes-then, stops-then}
+use borrow.Author.Needs.{needs}
+use Rattle.procedures.proofs.equations.positive_joined.Statement.{statement}
+use Rattle.procedures.proofs.equations.positive_joined.Tie as tie
+
+relevant-requires : tie.Need-relevant-requires
+relevant-requires c κs = search needs
+
+enum-known-an : tie.Need-enum-known-an
+enum-known-an c = search needs
+
+relevant-requires-2 : tie.Need-relevant-requires-2
+relevant-requires-2 c κs = search needs
+
+enum-known-bn : tie.Need-enum-known-bn
+enum-known-bn c = search needs
+
+joined-requires : tie.Need-joined-requires
+joined-requires c κs = (
+  within-count (c .before .before .before .before .before .before .before .before .before .before .before .before .before .before .before .relevant .ensures .0) (c .before .before .before .before .before .before .before .before .before .before .before .before .before .an .given .1),
+  within-count (c .before .before .before .before .before .before .before .before .before .relevant2 .ensures .0) (c .before .before .before .before .before .before .before .bn .given .1),
+  omega arith,
+)
+
+enum-told : tie.Need-enum-told
+enum-told c = search needs
+
+enum-told-2 : tie.Need-enum-told-2
+enum-told-2 c = search needs
+
+returns : tie.Need-returns
+unfolding positive-joined
+returns c =
+    let a = c .before .before .before .before .before .before .before .before .before .before .before .before .before .before .before .before .relevant .ensures in
+    let b = c .before .before .before .before .before .before .before .before .before .before .relevant2 .ensures in (
+      c .joined .ensures .0,
+      λ τ x t h ex et ix it z.
+          makes-then (a .1 τ x h ex ix (holds-empty _)) (λ A. relevant t τ >>= λ B. closed-cross A B) (c .before .before .before .before .before .before .before .before .before .before .before .before .before .before .an .given .1)
+          (λ A p.
+          makes-then (b .1 τ t h et it (holds-empty _)) (λ B. closed-cross A B) (c .before .before .before .before .before .before .before .before .bn .given .1)
+          (λ B q. c .joined .ensures .1 A B p q z)),
+    )
+
+returns-2 : tie.Need-returns-2
+unfolding positive-joined
+returns-2 c =
+    let a = c .before .before .before .before .before .before .before .before .relevant .ensures in
+    let b = c .before .before .relevant2 .ensures in (
+      tt,
+      λ τ x t h ex et ix it z.
+          makes-then (a .1 τ x h ex ix (holds-empty _)) (λ A. relevant t τ >>= λ B. closed-cross A B) (c .before .before .before .before .before .before .an .given .1)
+          (λ A p. stops-then (b .1 τ t h et it (holds-empty _)) (λ B. closed-cross A B) (c .enum-told .given .1)),
+    )
+
+returns-3 : tie.Need-returns-3
+unfolding positive-joined
+returns-3 c =
+    let a = c .before .before .relevant .ensures in
+    (tt, λ τ x t h ex et ix it z. stops-then (a .1 τ x h ex ix (holds-empty _)) (λ A. relevant t τ >>= λ B. closed-cross A B) (c .enum-told2 .given .1))
+
+pub positive-joined-spec : {M : Type 1} → statement M
+positive-joined-spec =
+    tie.close
+    (tie.spec
+    relevant-requires enum-known-an relevant-requires-2 enum-known-bn joined-requires enum-told enum-told-2 returns
+    returns-2 returns-3)

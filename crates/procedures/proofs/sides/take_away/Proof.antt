@@ -1,0 +1,29 @@
+use Rattle.tables.proofs.Values.{holds-empty}
+use Rattle.procedures.proofs.Folds.{take-away-selected}
+use borrow.Author.Needs.{needs}
+use Rattle.procedures.proofs.sides.take_away.Statement.{statement}
+use Rattle.procedures.proofs.sides.take_away.Tie as tie
+
+select-row-requires : tie.Need-select-row-requires
+select-row-requires c κs = search needs
+
+select-row-requires-2 : tie.Need-select-row-requires-2
+select-row-requires-2 c κs = search needs
+
+pieces-each-requires : tie.Need-pieces-each-requires
+pieces-each-requires c κs = search needs
+
+returns : tie.Need-returns
+returns c =
+    let p = c .pieces-each .ensures in
+    let matched = c .before .before .before .before .before .before .before .before .before .before .select-row .ensures in
+    let left = c .before .before .before .before .before .select-row2 .ensures in (
+      p .0,
+      λ τ t h e is.
+          rw (take-away-selected τ t)
+          (p .1 _ _ t (left .1 _ τ t h e is (holds-empty _)) (matched .1 _ τ t h e is (holds-empty _)) e is),
+    )
+
+pub take-away-spec : {M : Type 1} → statement M
+take-away-spec =
+    tie.close (tie.spec select-row-requires select-row-requires-2 pieces-each-requires returns)

@@ -1,0 +1,98 @@
+-- What a call answers, from what its parts told. Assumes nothing.
+use mathlib.Core.Path.{_≡_, refl, sym, ap, subst}
+use mathlib.Core.Bool.{Bool, true, false, _&&_, cond}
+use mathlib.Core.List.{List}
+use mathlib.Core.Option.{Option, some, none}
+use Prim.Native.Nat.{ℕ, _-_, _^_, _≤_, _<_}
+use native.Mathlib.Omega.{arith}
+use borrow.Author.Tests.{ltb-true, leb-true}
+use lib.Dec.{ltb, leb}
+use lib.ListN.{length}
+use Rattle.model.specs.Growth.{Entries}
+use Rattle.model.specs.Terms.{Term, variables}
+use Rattle.model.specs.Tokens.{named}
+use Rattle.words.specs.Words.{set-word}
+use Rattle.tables.specs.declared.Table.{Table}
+use Rattle.tables.specs.declared.Refusal.{Refusal}
+use Rattle.tables.specs.declared.Refusal.the-variants as R
+use Rattle.tables.specs.declared.lists.Grown.{Grown}
+use Rattle.tables.specs.declared.lists.Grown.the-variants.{Count, Full}
+use Rattle.tables.specs.Lists.{Holds, Makes}
+use Rattle.tables.specs.Values.{accepts, refuses, made-or-full, GoodTable, entries-of}
+use Rattle.tables.proofs.Values.{table-is}
+use Rattle.tables.proofs.Toward.{makes-count, makes-full}
+use Rattle.tables.proofs.Checking.{good-holds, width-most}
+use Rattle.tables.proofs.Converting.{both-true, below-full}
+use Rattle.terms.specs.declared.Checked.the-variants.{Variables, Refused}
+use Rattle.terms.specs.Checks as C
+use Rattle.terms.specs.Checks.{check-equation, check-term, checked}
+use Rattle.sharing.specs.Calls.{good-keep}
+
+-- ---- The table of a working list
+
+module _ {l : ℕ} {care value : List ℕ} {g : Grown} {o : Option Entries} (told : Makes l care value g o) (t : Table) where
+  pub made-table : {n : ℕ} → g ≡ Count n → accepts (record { l = l; n = n; care = care; value = value }) ≡ made-or-full l t o
+  unfolding made-or-full
+  made-table e = let m = makes-count told e in rw (m .1) (ap accepts (table-is (m .2)))
+
+  pub full-table : g ≡ Full → refuses R.Full t ≡ made-or-full l t o
+  unfolding made-or-full
+  full-table e = rw (makes-full told e)
+
+-- ---- A good table
+
+module _ {t : Table} (g : GoodTable t) where
+  pub good-few : t .n ≤ 256
+  good-few = let h = good-holds g in omega (arith, h .count, h .good .few)
+
+  pub good-wide : t .l ≤ 32
+  good-wide = omega (arith, width-most (t .l) (g .width))
+
+  pub good-of-width : {l : ℕ} → t .l ≡ l → Holds l (t .care) (t .value) (t .n) (entries-of t)
+  good-of-width e = subst (λ (l : ℕ). Holds l (t .care) (t .value) (t .n) (entries-of t)) e (good-holds g)
+
+-- ---- The equation's checks
+
+-- the variable x is 1 to l, and the tokens are a term whose variables are the set m
+pub record Read (l x : ℕ) (ts : List ℕ) (m : ℕ) : Type 0 where
+  pub term : Term
+  pub is : check-equation l x ts ≡ C.reads term
+  pub word : m ≡ set-word (variables l term)
+  pub left : named l x ≡ true
+  pub low : 0 < x
+  pub high : x ≤ l
+
+outcome : (l m : ℕ) (o : C.Outcome Term) → checked l o ≡ Variables m → (u : Term) × (o ≡ C.reads u) × (m ≡ set-word (variables l u))
+unfolding checked
+outcome l m (C.reads u) e = (u, refl, sym cc)
+outcome l m (C.refuses r) e = absurd (let z : _≡_ {A = ℕ} 0 1 = cc in omega arith)
+
+pub refused-outcome : (l : ℕ) (r : Refusal) (o : C.Outcome Term) → checked l o ≡ Refused r → o ≡ C.refuses r
+unfolding checked
+refused-outcome l r (C.reads u) e = absurd (let z : _≡_ {A = ℕ} 0 1 = cc in omega arith)
+refused-outcome l r (C.refuses s) e = cc
+
+-- where the two tests before the term's fail, the outcome is a refusal
+read-tests : (b c : Bool) (o : C.Outcome Term) (u : Term)
+    → cond b (cond c o (C.refuses R.Name)) (C.refuses R.Long) ≡ C.reads u → c ≡ true
+read-tests true true o u e = refl
+read-tests true false o u e = absurd (let z : _≡_ {A = ℕ} 0 1 = cc in omega arith)
+read-tests false c o u e = absurd (let z : _≡_ {A = ℕ} 0 1 = cc in omega arith)
+
+pub read-equation : (l x : ℕ) (ts : List ℕ) (m : ℕ) → checked l (check-equation l x ts) ≡ Variables m → Read l x ts m
+unfolding check-equation
+read-equation l x ts m e =
+    let o = outcome l m (check-equation l x ts) e in
+    let n = read-tests (leb (length ts) C.most-tokens) (named l x) (check-term l ts) (o .0) (o .1) in
+    let b = both-true (ltb 0 x) (leb x l) n in
+    record { term = o .0; is = o .1; word = o .2; left = n; low = ltb-true 0 x (b .0); high = leb-true x l (b .1) }
+
+-- ---- The set of a projection
+
+pub keep-test : (l keep full : ℕ) → full ≡ 2 ^ l - 1 → (ltb 0 keep && leb keep full) ≡ good-keep l keep
+unfolding good-keep
+keep-test l keep full e = ap (λ (b : Bool). ltb 0 keep && b) (below-full l keep full e)
+
+pub keep-below : (l keep : ℕ) → good-keep l keep ≡ true → keep < 2 ^ l
+unfolding good-keep
+keep-below l keep h = ltb-true keep (2 ^ l) (both-true (ltb 0 keep) (ltb keep (2 ^ l)) h .1)

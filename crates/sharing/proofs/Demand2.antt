@@ -1,0 +1,175 @@
+-- Demand 2 of the calls themselves, both sides. Assumes nothing.
+use mathlib.Core.Path.{_≡_, refl, sym, ap, _∙_, subst}
+use mathlib.Core.Bool.{Bool, true, false, _&&_, cond}
+use mathlib.Core.List.{List, [], _∷_}
+use mathlib.Core.Logic.{inl, inr, _↔_}
+use mathlib.Core.Option.{Option, some, none}
+use Prim.Native.Nat.{ℕ, _^_, _≤_, _<_}
+use native.Mathlib.Omega.{arith}
+use borrow.Author.Tests.{ltb-true, eqb-true, eqb-false, lt-ltb, le-leb, ne-eqb}
+use lib.Dec.{T, ltb, leb, eqb}
+use lib.ListN.{length}
+use Rattle.model.specs.Groups.{Bits, Groups, nonzero, cut, Projected, Joined}
+use Rattle.model.specs.Growth.{Entries}
+use Rattle.model.specs.Terms.{Term, var, variables}
+use Rattle.model.specs.Tables.{Side, opposite, Good, groups, kept, change-side, join, projection}
+use Rattle.model.specs.Questions.{Equal}
+use Rattle.model.specs.Equations.{Equation, After, equation}
+use Rattle.model.specs.Full.{EquationFull, JoinFull, ProjectionFull}
+use Rattle.model.proofs.Fullness as F
+use Rattle.model.proofs.Demand2 as D
+use Rattle.words.specs.Words.{set}
+use Rattle.words.proofs.Codec.{set-length, set-word-set, nonzero-word}
+use Rattle.tables.specs.declared.Table.{Table}
+use Rattle.tables.specs.declared.Refusal.{Refusal}
+use Rattle.tables.specs.declared.Refusal.the-variants as R
+use Rattle.tables.specs.declared.Answer.{Answer}
+use Rattle.tables.specs.declared.Answer.the-variants.{Accepted, Refused}
+use Rattle.tables.specs.declared.Answered.{Answered}
+use Rattle.tables.specs.Values.{table-of, entries-of, refuses, made-or-full, good-width, check-table, GoodTable}
+use Rattle.tables.proofs.Values.{entries-of-table, table-of-good}
+use Rattle.tables.proofs.Checking.{width-most, passes-good}
+use Rattle.tables.proofs.Converting.{both-true}
+use Rattle.terms.specs.Checks as C
+use Rattle.sharing.specs.Calls.{after-check, after-term, good-keep, projected, equation-call, join-call, projection-call}
+use Rattle.sharing.specs.Calls.{change-side-call}
+use Rattle.sharing.specs.Outcomes.{groups-of, Becomes, Outcome, early, full, accepted, EquationOutcome, JoinOutcome}
+use Rattle.sharing.specs.Outcomes.{ProjectionOutcome, ChangeOutcome, TableValue, EquationEarly, EquationReady, JoinEarly, JoinReady}
+use Rattle.sharing.specs.Outcomes.{ProjectionEarly, ProjectionReady}
+
+-- the table of a good list stands for the list's groups
+becomes : (side : Side) (l : ℕ) (S : Groups) (ρ : Entries) → good-width l ≡ true → Good l ρ → Equal (groups side l ρ) S
+    → Becomes side l S (table-of l ρ)
+unfolding table-of
+becomes side l S ρ w g e = record {
+  good = table-of-good l ρ w g;
+  width = refl;
+  exact = subst (λ (τ : Entries). Equal (groups side l τ) S) (sym (entries-of-table l ρ g)) e;
+}
+
+-- where the call is ready, the list or the lack of one decides
+module _ {t : Table} {Early : Refusal → Type 0} {Ready : Type 0} {Full : Ready → Type 0} {Result : Ready → Table → Type 0}
+    (ready : Ready) (l : ℕ) where
+  grown : (o : Option Entries) → (o ≡ none) ↔ Full ready → ((ρ : Entries) → o ≡ some ρ → Result ready (table-of l ρ))
+      → Outcome t Early Ready Full Result (made-or-full l t o)
+  unfolding made-or-full
+  grown none f made = full ready (f .0 refl)
+  grown (some ρ) f made =
+      accepted ready (λ h. let e = f .1 h in absurd (let z : _≡_ {A = ℕ} 0 1 = cc in omega arith)) (made ρ refl)
+
+-- a call goes on only with a good table
+module _ {t : Table} {Early : Refusal → Type 0} {Ready : Type 0} {Full : Ready → Type 0} {Result : Ready → Table → Type 0}
+    (u : Table) (value : TableValue u) (a : Answered) where
+  checked-first : ((r : Refusal) → check-table u ≡ Refused r → Early r)
+      → (GoodTable u → Outcome t Early Ready Full Result a)
+      → Outcome t Early Ready Full Result (after-check (check-table u) t a)
+  unfolding after-check
+  checked-first f g = go (check-table u) refl
+    where
+      go : (c : Answer) → check-table u ≡ c → Outcome t Early Ready Full Result (after-check c t a)
+      go Accepted e = g (passes-good u (value .cares) (value .values) e)
+      go (Refused r) e = early (f r e)
+
+-- ---- Equation
+
+pub equation-outcome : (side : Side) (t : Table) (x : ℕ) (ts : List ℕ) → TableValue t → EquationOutcome side t x ts
+unfolding equation-call after-term equation
+equation-outcome side t x ts value =
+    checked-first t value _ (λ r e. inl e) (λ good. go good (C.check-equation (t .l) x ts) refl)
+  where
+    eq : Term → Equation
+    eq u = record { left = x; right = u }
+
+    go : GoodTable t → (o : C.Outcome Term) → C.check-equation (t .l) x ts ≡ o
+        → Outcome t (EquationEarly t x ts) (EquationReady t x ts)
+        (λ r. EquationFull side (t .l) (variables (t .l) (var x)) (variables (t .l) (r .term)) (entries-of t))
+        (λ r. Becomes side (t .l) (After (record { left = x; right = r .term }) (groups-of side t)))
+        (after-term o t (λ u. made-or-full (t .l) t (equation side (t .l) (eq u) (entries-of t))))
+    go good (C.reads u) e =
+        grown (record { table = good; term = u; reads = e }) (t .l) _ (F.equation-full side (t .l) _ _ (entries-of t))
+        (λ ρ m.
+        becomes side (t .l) _ ρ (good .width) (D.equation-good side (t .l) (eq u) (entries-of t) ρ (good .list) m .0)
+        (D.equation-exact side (t .l) (eq u) (entries-of t) ρ (good .list) m))
+    go good (C.refuses r) e = early (inr (good, e))
+
+-- ---- Join
+
+pub join-outcome : (side : Side) (t u : Table) → TableValue t → TableValue u → JoinOutcome side t u
+unfolding join-call
+join-outcome side t u vt vu =
+    checked-first t vt _ (λ r e. inl e) (λ good-t.
+    checked-first u vu _ (λ r e. inr (inl (good-t, e))) (λ good-u. go good-t good-u (eqb (t .l) (u .l)) refl))
+  where
+    go : GoodTable t → GoodTable u → (b : Bool) → eqb (t .l) (u .l) ≡ b
+        → Outcome t (JoinEarly t u) (JoinReady t u) (λ r. JoinFull side (entries-of t) (entries-of u))
+        (λ r. Becomes side (t .l) (Joined (groups-of side t) (groups-of side u)))
+        (cond b (made-or-full (t .l) t (join side (entries-of t) (entries-of u))) (refuses R.Unlike t))
+    go good-t good-u true e =
+        let w = eqb-true (t .l) (u .l) e in
+        let list : Good (t .l) (entries-of u) = subst (λ (l : ℕ). Good l (entries-of u)) (sym w) (good-u .list) in
+        grown (good-t, good-u, w) (t .l) (join side (entries-of t) (entries-of u))
+        (F.join-full side (entries-of t) (entries-of u))
+        (λ ρ m.
+        becomes side (t .l) _ ρ (good-t .width)
+        (D.join-good side (t .l) (entries-of t) (entries-of u) ρ (good-t .list) list m)
+        (subst (λ (l : ℕ). Equal (groups side (t .l) ρ) (Joined (groups-of side t) (groups side l (entries-of u)))) w
+        (D.join-exact side (t .l) (entries-of t) (entries-of u) ρ (good-t .list) list m)))
+    go good-t good-u false e = early (inr (inr (good-t, good-u, eqb-false (t .l) (u .l) e, refl)))
+
+-- ---- Projection
+
+kept-most : (k : Bits) → kept k ≤ length k
+unfolding kept cut
+kept-most [] = omega arith
+kept-most (true ∷ k) = omega (arith, kept-most k)
+kept-most (false ∷ k) = omega (arith, kept-most k)
+
+kept-some : (k : Bits) → T (nonzero k) → 0 < kept k
+unfolding kept cut nonzero
+kept-some [] h = absurd h
+kept-some (true ∷ k) h = omega arith
+kept-some (false ∷ k) h = kept-some k h
+
+-- a good set keeps 1 to 16 positions of a good width
+kept-width : (l keep : ℕ) → good-width l ≡ true → good-keep l keep ≡ true → good-width (kept (set l keep)) ≡ true
+unfolding good-width good-keep
+kept-width l keep w h =
+    let k = set l keep in
+    let b = both-true (ltb 0 keep) (ltb keep (2 ^ l)) h in
+    let some : nonzero k ≡ true =
+    nonzero-word k ∙ rw (set-word-set l keep (ltb-true keep (2 ^ l) (b .1)), ne-eqb keep 0 (λ z. let p = ltb-true 0 keep (b .0) in omega arith)) in
+    let most = kept-most k in
+    let few = width-most l w in
+    let long = set-length l keep in
+    rw (lt-ltb 0 (kept k) (kept-some k (rw some tt)), le-leb (kept k) 16 (omega arith))
+
+pub projection-outcome : (side : Side) (t : Table) (keep : ℕ) → TableValue t → ProjectionOutcome side t keep
+unfolding projection-call projected
+projection-outcome side t keep value =
+    checked-first t value _ (λ r e. inl e) (λ good. go good (good-keep (t .l) keep) refl)
+  where
+    go : GoodTable t → (b : Bool) → good-keep (t .l) keep ≡ b
+        → Outcome t (ProjectionEarly t keep) (ProjectionReady t keep)
+        (λ r. ProjectionFull side (t .l) (set (t .l) keep) (entries-of t))
+        (λ r. Becomes side (kept (set (t .l) keep)) (Projected (set (t .l) keep) (groups-of side t)))
+        (cond b (made-or-full (kept (set (t .l) keep)) t (projection side (t .l) (set (t .l) keep) (entries-of t)))
+        (refuses R.Keep t))
+    go good true e =
+        let k = set (t .l) keep in
+        let long = set-length (t .l) keep in
+        grown (good, e) (kept k) (projection side (t .l) k (entries-of t)) (F.projection-full side (t .l) k (entries-of t))
+        (λ ρ m.
+        becomes side (kept k) _ ρ (kept-width (t .l) keep (good .width) e)
+        (D.projection-good side (t .l) k (entries-of t) ρ long (good .list) m)
+        (D.projection-exact side (t .l) k (entries-of t) ρ long (good .list) m))
+    go good false e = early (inr (good, e, refl))
+
+-- ---- Change of side
+
+pub change-outcome : (side : Side) (t : Table) → TableValue t → ChangeOutcome side t
+unfolding change-side-call
+change-outcome side t value =
+    checked-first t value _ (λ r e. e) (λ good.
+    grown good (t .l) (change-side (t .l) (entries-of t)) (F.change-full (t .l) (entries-of t))
+    (λ ρ e. becomes (opposite side) (t .l) (groups-of side t) ρ (good .width) (D.change-good side (t .l) (entries-of t) ρ e)
+    (D.change-exact side (t .l) (entries-of t) ρ e)))

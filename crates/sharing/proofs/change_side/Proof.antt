@@ -1,0 +1,45 @@
+use mathlib.Core.Path.{sym, _∙_}
+use Rattle.tables.proofs.Values.{holds-empty}
+use Rattle.tables.proofs.Checking.{good-holds}
+use Rattle.sharing.specs.Calls.{after-check, change-side-call}
+use Rattle.sharing.proofs.Answers.{good-few, good-wide}
+use borrow.Author.Needs.{needs}
+use Rattle.sharing.proofs.change_side.Statement.{statement}
+use Rattle.sharing.proofs.change_side.Tie as tie
+
+check-requires : tie.Need-check-requires
+check-requires c κs = search needs
+
+enum-known-r : tie.Need-enum-known-r
+enum-known-r c = search needs
+
+refused-requires : tie.Need-refused-requires
+refused-requires c κs = search needs
+
+enum-told : tie.Need-enum-told
+enum-told c = search needs
+
+change-side-requires : tie.Need-change-side-requires
+change-side-requires c κs =
+    let g = c .before .before .before .before .before .before .before .before .check .ensures .1 .0 (c .before .before .before .before .before .before .enum-told .given .1) in
+    (good-few g, good-wide g)
+
+answered-requires : tie.Need-answered-requires
+answered-requires c κs = search needs
+
+returns : tie.Need-returns
+unfolding change-side-call after-check
+returns c = rw (c .refused .ensures, sym (c .before .before .before .before .check .ensures .0) ∙ c .before .before .r .given .1)
+
+returns-2 : tie.Need-returns-2
+unfolding change-side-call after-check
+returns-2 c =
+    let g = c .before .before .before .before .before .before .before .before .before .before .before .before .check .ensures .1 .0 (c .before .before .before .before .before .before .before .before .before .before .enum-told .given .1) in
+    rw (sym (c .before .before .before .before .before .before .before .before .before .before .before .before .check .ensures .0) ∙ c .before .before .before .before .before .before .before .before .before .before .enum-told .given .1)
+    (c .answered .ensures _ (c .before .before .before .change-side .ensures .1 _ (good-holds g) (holds-empty _)))
+
+pub change-side-spec : {M : Type 1} → statement M
+change-side-spec =
+    tie.close
+    (tie.spec
+    check-requires enum-known-r refused-requires enum-told change-side-requires answered-requires returns returns-2)

@@ -1,0 +1,20 @@
+use Rattle.tables.proofs.Values.{holds-empty}
+use Rattle.tables.proofs.Checking.{good-holds}
+use Rattle.sharing.proofs.Answers.{good-few, good-wide}
+use borrow.Author.Needs.{needs}
+use Rattle.sharing.proofs.equate.Statement.{statement}
+use Rattle.sharing.proofs.equate.Tie as tie
+
+equation-list-requires : tie.Need-equation-list-requires
+equation-list-requires c κs = let g = c .before .before .before .before .before .before .pre in (good-few g, good-wide g)
+
+answered-requires : tie.Need-answered-requires
+answered-requires c κs = search needs
+
+returns : tie.Need-returns
+returns c =
+    λ x y ex ey ix iy. c .answered .ensures _
+    (c .before .before .before .equation-list .ensures _ x y (good-holds (c .before .before .before .before .before .before .before .before .before .before .pre)) ex ey ix iy (holds-empty _))
+
+pub equate-spec : {M : Type 1} → statement M
+equate-spec = tie.close (tie.spec equation-list-requires answered-requires returns)

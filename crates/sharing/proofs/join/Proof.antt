@@ -1,0 +1,71 @@
+use mathlib.Core.Path.{sym, _∙_}
+use borrow.Author.Tests.{eq-eqb, ne-eqb}
+use Rattle.sharing.specs.Calls.{after-check, join-call}
+use borrow.Author.Needs.{needs}
+use Rattle.sharing.proofs.join.Statement.{statement}
+use Rattle.sharing.proofs.join.Tie as tie
+
+check-requires : tie.Need-check-requires
+check-requires c κs = search needs
+
+enum-known-r : tie.Need-enum-known-r
+enum-known-r c = search needs
+
+refused-requires : tie.Need-refused-requires
+refused-requires c κs = search needs
+
+enum-told : tie.Need-enum-told
+enum-told c = search needs
+
+check-requires-2 : tie.Need-check-requires-2
+check-requires-2 c κs = search needs
+
+enum-known-r-2 : tie.Need-enum-known-r-2
+enum-known-r-2 c = search needs
+
+refused-requires-2 : tie.Need-refused-requires-2
+refused-requires-2 c κs = search needs
+
+enum-told-2 : tie.Need-enum-told-2
+enum-told-2 c = search needs
+
+unite-requires : tie.Need-unite-requires
+unite-requires c κs = (
+  c .before .before .before .before .before .before .before .before .check .ensures .1 .0 (c .before .before .before .before .before .before .enum-told .given .1),
+  c .before .before .before .before .before .check2 .ensures .1 .0 (c .before .before .before .enum-told2 .given .1),
+  sym (c .if1 .taken),
+)
+
+refused-requires-3 : tie.Need-refused-requires-3
+refused-requires-3 c κs = search needs
+
+returns : tie.Need-returns
+unfolding join-call after-check
+returns c = rw (c .refused .ensures, sym (c .before .before .before .before .check .ensures .0) ∙ c .before .before .r .given .1)
+
+returns-2 : tie.Need-returns-2
+unfolding join-call after-check
+returns-2 c = rw (c .refused2 .ensures, sym (c .before .before .before .before .before .before .before .check .ensures .0) ∙ c .before .before .before .before .before .enum-told .given .1, sym (c .before .before .before .before .check2 .ensures .0) ∙ c .before .before .r2 .given .1)
+
+returns-3 : tie.Need-returns-3
+unfolding join-call after-check
+returns-3 c =
+    rw (sym (c .before .before .before .before .before .before .before .before .before .check .ensures .0) ∙ c .before .before .before .before .before .before .before .enum-told .given .1, sym (c .before .before .before .before .before .before .check2 .ensures .0) ∙ c .before .before .before .before .enum-told2 .given .1, eq-eqb _ _ (c .before .if1 .taken))
+    (c .unite .ensures)
+
+returns-4 : tie.Need-returns-4
+unfolding join-call after-check
+returns-4 c =
+    rw (
+      c .refused3 .ensures,
+      sym (c .before .before .before .before .before .before .before .before .before .check .ensures .0) ∙ c .before .before .before .before .before .before .before .enum-told .given .1,
+      sym (c .before .before .before .before .before .before .check2 .ensures .0) ∙ c .before .before .before .before .enum-told2 .given .1,
+      ne-eqb _ _ (c .before .if1 .left),
+    )
+
+pub join-spec : {M : Type 1} → statement M
+join-spec =
+    tie.close
+    (tie.spec
+    check-requires enum-known-r refused-requires enum-told check-requires-2 enum-known-r-2 refused-requires-2
+    enum-told-2 unite-requires refused-requires-3 returns returns-2 returns-3 returns-4)

@@ -1,0 +1,71 @@
+use mathlib.Core.Path.{_≡_, sym, ap, _∙_}
+use mathlib.Core.Bool.{false}
+use borrow.Author.Tests.{not-true, not-false}
+use lib.Count.{ones}
+use Rattle.words.proofs.Codec.{set-length, set-word-set}
+use Rattle.tables.proofs.Values.{holds-empty}
+use Rattle.tables.proofs.Checking.{good-holds}
+use Rattle.procedures.proofs.Sets.{kept-ones}
+use Rattle.sharing.specs.Calls.{after-check, good-keep, projected, projection-call}
+use Rattle.sharing.proofs.Answers.{good-few, good-wide, keep-test, keep-below}
+use borrow.Author.Needs.{needs}
+use Rattle.sharing.proofs.project.Statement.{statement}
+use Rattle.sharing.proofs.project.Tie as tie
+
+check-requires : tie.Need-check-requires
+check-requires c κs = search needs
+
+enum-known-r : tie.Need-enum-known-r
+enum-known-r c = search needs
+
+refused-requires : tie.Need-refused-requires
+refused-requires c κs = search needs
+
+enum-told : tie.Need-enum-told
+enum-told c = search needs
+
+full-requires : tie.Need-full-requires
+full-requires c κs = good-wide (c .before .before .check .ensures .1 .0 (c .enum-told .given .1))
+
+refused-requires-2 : tie.Need-refused-requires-2
+refused-requires-2 c κs = search needs
+
+returns : tie.Need-returns
+unfolding projection-call after-check projected
+returns c =
+    let a = c .before .before .before .before .before .before .args in
+    let k : good-keep (a .t .l) (a .keep) ≡ false = sym (keep-test _ _ _ (c .before .before .full .ensures)) ∙ not-true _ (c .before .if1 .taken) in
+    rw (
+      c .refused2 .ensures,
+      sym (c .before .before .before .before .before .check .ensures .0) ∙ c .before .before .before .enum-told .given .1,
+      k,
+    )
+
+projection-list-requires : tie.Need-projection-list-requires
+projection-list-requires c κs =
+    let g = c .before .before .before .before .before .before .before .before .before .before .check .ensures .1 .0 (c .before .before .before .before .before .before .before .before .enum-told .given .1) in
+    (good-few g, good-wide g)
+
+answered-requires : tie.Need-answered-requires
+answered-requires c κs = search needs
+
+returns-2 : tie.Need-returns-2
+unfolding projection-call after-check projected
+returns-2 c = rw (c .refused .ensures, sym (c .before .before .before .before .check .ensures .0) ∙ c .before .before .r .given .1)
+
+returns-3 : tie.Need-returns-3
+unfolding projection-call after-check projected
+returns-3 c =
+    let g = c .before .before .before .before .before .before .before .before .before .before .before .before .before .before .check .ensures .1 .0 (c .before .before .before .before .before .before .before .before .before .before .before .before .enum-told .given .1) in
+    let k = sym (keep-test _ _ _ (c .before .before .before .before .before .before .before .before .before .before .before .full .ensures)) ∙ not-false _ (c .before .before .before .before .before .before .before .before .before .before .if1 .left) in
+    let below = set-word-set _ _ (keep-below _ _ k) in
+    let told = c .before .before .before .projection-list .ensures _ _ (good-holds g) (set-length _ _) (sym below) (holds-empty _) in
+    rw (sym (c .before .before .before .before .before .before .before .before .before .before .before .before .before .before .check .ensures .0) ∙ c .before .before .before .before .before .before .before .before .before .before .before .before .enum-told .given .1, k)
+    (rw (ap ones (sym below) ∙ kept-ones _) at (c .answered .ensures) _ told)
+
+pub project-spec : {M : Type 1} → statement M
+project-spec =
+    tie.close
+    (tie.spec
+    check-requires enum-known-r refused-requires enum-told full-requires refused-requires-2 returns
+    projection-list-requires answered-requires returns-2 returns-3)

@@ -1,0 +1,31 @@
+use native.Mathlib.Omega.{arith}
+use Rattle.model.specs.Tables.{projection}
+use borrow.Author.Needs.{needs}
+use Rattle.sharing.proofs.projection_list.Statement.{statement}
+use Rattle.sharing.proofs.projection_list.Tie as tie
+
+enum-told : tie.Need-enum-told
+enum-told c = search needs
+
+positive-requires : tie.Need-positive-requires
+positive-requires c κs = search needs
+
+enum-told-2 : tie.Need-enum-told-2
+enum-told-2 c = search needs
+
+negative-requires : tie.Need-negative-requires
+negative-requires c κs = search needs
+
+returns : tie.Need-returns
+unfolding projection
+returns c =
+    λ k τ h e is z. rw (c .before .before .before .enum-told .given .1)
+    (c .positive .ensures .1 k τ (rw e h) (omega (arith, e, c .before .before .before .before .before .pre .1)) is z)
+
+returns-2 : tie.Need-returns-2
+returns-2 c = λ k τ h e is z. rw (c .before .before .before .enum-told2 .given .1) (c .negative .ensures .1 k τ h e is z)
+
+pub projection-list-spec : {M : Type 1} → statement M
+projection-list-spec =
+    tie.close
+    (tie.spec enum-told positive-requires enum-told-2 negative-requires returns returns-2)

@@ -1,0 +1,15 @@
+use borrow.Author.Tests.{eq-eqb, ne-eqb}
+use Rattle.sharing.specs.Calls.{side-told}
+use Rattle.sharing.proofs.side_numbered.Statement.{statement}
+use Rattle.sharing.proofs.side_numbered.Tie as tie
+
+returns : tie.Need-returns
+unfolding side-told
+returns c = rw (eq-eqb _ 0 (c .if1 .taken))
+
+returns-2 : tie.Need-returns-2
+unfolding side-told
+returns-2 c = rw (ne-eqb _ 0 (c .if1 .left))
+
+pub side-numbered-spec : {M : Type 1} → statement M
+side-numbered-spec = tie.close (tie.spec returns returns-2)

@@ -1,0 +1,68 @@
+-- The calls on table values (01, "Refusals"): the table's own 2, 3, 4, of two tables the first's first; then the equation's
+-- checks, 10 or 11; then 8. A refusal returns the table as given, of two the first.
+use mathlib.Core.Bool.{Bool, _&&_, cond}
+use mathlib.Core.List.{List}
+use Prim.Native.Nat.{ℕ, _^_}
+use lib.Dec.{ltb, eqb}
+use Rattle.model.specs.Terms.{Term}
+use Rattle.model.specs.Tables.{positive, negative, change-side, join, kept, projection}
+use Rattle.model.specs.Tables as M
+use Rattle.model.specs.Equations.{equation}
+use Rattle.words.specs.Words.{set}
+use Rattle.tables.specs.declared.Table.{Table}
+use Rattle.tables.specs.declared.Refusal.the-variants as R
+use Rattle.tables.specs.declared.Answer.{Answer}
+use Rattle.tables.specs.declared.Answer.the-variants.{Accepted, Refused}
+use Rattle.tables.specs.declared.Answered.{Answered}
+use Rattle.tables.specs.Values.{entries-of, refuses, made-or-full, check-table}
+use Rattle.terms.specs.Checks as C
+use Rattle.sharing.specs.declared.Side.{Side}
+use Rattle.sharing.specs.declared.Side.the-variants.{Positive, Negative}
+
+-- The side that the enum names.
+abbrev pub side-of : Side → M.Side
+side-of Positive = positive
+side-of Negative = negative
+
+-- The side that a number tells: 0 is positive, any other number negative.
+unfoldable pub side-told : ℕ → M.Side
+side-told n = cond (eqb n 0) positive negative
+
+-- Where a table was refused by its own check, the call is, and returns the table t; else it goes on.
+unfoldable pub after-check : Answer → Table → Answered → Answered
+after-check Accepted t a = a
+after-check (Refused r) t a = refuses r t
+
+-- Where the term was refused, the call is, and returns the table t; else it goes on with the term.
+unfoldable pub after-term : C.Outcome Term → Table → (Term → Answered) → Answered
+after-term (C.reads u) t go = go u
+after-term (C.refuses r) t go = refuses r t
+
+-- The equation Xx = the term of the tokens ts: 2, 3, 4; 7; 5 of x; 5 of the tokens; 6; 8.
+unfoldable pub equation-call : M.Side → Table → ℕ → List ℕ → Answered
+equation-call side t x ts =
+    after-check (check-table t) t (after-term (C.check-equation (t .l) x ts) t (λ u.
+    made-or-full (t .l) t (equation side (t .l) (record { left = x; right = u }) (entries-of t))))
+
+-- The join of two tables of one side: 2, 3, 4 of the first, then of the second; 10; 8.
+unfoldable pub join-call : M.Side → Table → Table → Answered
+join-call side t u =
+    after-check (check-table t) t (after-check (check-table u) t
+    (cond (eqb (t .l) (u .l)) (made-or-full (t .l) t (join side (entries-of t) (entries-of u))) (refuses R.Unlike t)))
+
+-- The set keep has a variable, and none above l.
+unfoldable pub good-keep : ℕ → ℕ → Bool
+good-keep l keep = ltb 0 keep && ltb keep (2 ^ l)
+
+-- The projection onto the set k.
+unfoldable pub projected : M.Side → Table → List Bool → Answered
+projected side t k = made-or-full (kept k) t (projection side (t .l) k (entries-of t))
+
+-- The projection of a table: 2, 3, 4; 11; 8.
+unfoldable pub projection-call : M.Side → Table → ℕ → Answered
+projection-call side t keep =
+    after-check (check-table t) t (cond (good-keep (t .l) keep) (projected side t (set (t .l) keep)) (refuses R.Keep t))
+
+-- The change of side of a table: 2, 3, 4; 8. The procedure is the same from either side.
+unfoldable pub change-side-call : M.Side → Table → Answered
+change-side-call side t = after-check (check-table t) t (made-or-full (t .l) t (change-side (t .l) (entries-of t)))

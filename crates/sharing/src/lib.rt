@@ -1,0 +1,275 @@
+// The operations on table values, of both sides: equation, join, projection and change of side.
+// A refusal returns the table as given; of two tables, the first.
+use procedures::equations;
+use procedures::projections;
+use procedures::sides;
+use tables::Answer;
+use tables::Answered;
+use tables::Refusal;
+use tables::Table;
+use tables::lists;
+use tables::lists::Grown;
+use terms::Checked;
+ghost use mathlib.Core.Path.{_≡_};
+ghost use mathlib.Core.List.{List, []};
+ghost use mathlib.Core.Option.{Option};
+ghost use Prim.Native.Nat.{ℕ, _≤_, _<_};
+ghost use lib.ListN.{length};
+ghost use Rattle.model.specs.Groups.{Bits};
+ghost use Rattle.model.specs.Growth.{Entries};
+ghost use Rattle.model.specs.Tables.{equation-of-sets, join as join-lists, kept, projection};
+ghost use Rattle.words.specs.Words.{set-word};
+ghost use Rattle.tables.specs.Lists.{Holds, Within, Makes};
+ghost use Rattle.tables.specs.Values.{refuses, made-or-full, GoodTable, entries-of};
+ghost use Rattle.procedures.specs.Parts.{OfSets};
+ghost use Rattle.sharing.specs.Calls.{side-of, side-told, equation-call, join-call, projection-call, change-side-call};
+
+// A table is positive or negative.
+pub enum Side {
+    Positive,
+    Negative,
+}
+
+// The side that a number tells: 0 is positive, any other number negative.
+pub fn side_numbered(number: u32) -> Side
+    ensures { λ r. ⌜ side-of r ≡ side-told number ⌝ }
+{
+    if number == 0 {
+        return Side::Positive;
+    }
+    Side::Negative
+}
+
+// A refusal, with the table that is returned.
+fn refused(r: Refusal, t: Table) -> Answered
+    ensures { λ a. ⌜ a ≡ refuses r t ⌝ }
+{
+    Answered {
+        answer: Answer::Refused(r),
+        table: t,
+    }
+}
+
+// The table of a working list of strings of l positions; 8 where there is none, with the table that is then returned.
+fn answered(l: u32, t: Table, g: Grown, care: &[u32; 256], value: &[u32; 256]) -> Answered
+    ensures { λ r. ⌜
+        ((o : Option Entries) → Makes l (now (care .entry)) (now (value .entry)) g o → r ≡ made-or-full l t o)
+        ⌝ }
+{
+    match g {
+        Grown::Count(n) => Answered {
+            answer: Answer::Accepted,
+            table: Table {
+                l: l,
+                n: n,
+                care: *care,
+                value: *value,
+            },
+        },
+        Grown::Full => refused(Refusal::Full, t),
+    }
+}
+
+// The entries after an equation, for x alone in mx and t's variables in mt.
+fn equation_list(
+    side: Side,
+    tcare: &[u32; 256],
+    tvalue: &[u32; 256],
+    tn: usize,
+    l: u32,
+    mx: u32,
+    mt: u32,
+    care: &mut [u32; 256],
+    value: &mut [u32; 256],
+) -> Grown
+    requires { ⌜ (tn ≤ 256) × (l ≤ 32) ⌝ }
+    ensures { λ r. ⌜
+        OfSets l (now (tcare .entry)) (now (tvalue .entry)) tn mx mt (λ τ x t.
+        Holds l (now (care .entry)) (now (value .entry)) 0 []
+        → Makes l (now (care .exit)) (now (value .exit)) r (equation-of-sets (side-of side) l x t τ))
+        ⌝ }
+{
+    match side {
+        Side::Positive => equations::positive(tcare, tvalue, tn, l, mx, mt, care, value),
+        Side::Negative => equations::negative(tcare, tvalue, tn, l, mx, mt, care, value),
+    }
+}
+
+// The equation on a good table, for x alone in mx and t's variables in mt.
+fn equate(side: Side, t: Table, mx: u32, mt: u32) -> Answered
+    requires { ⌜ GoodTable t ⌝ }
+    ensures { λ r. ⌜
+        ((x y : Bits) → length x ≡ t .l → length y ≡ t .l → mx ≡ set-word x → mt ≡ set-word y
+        → r ≡ made-or-full (t .l) t (equation-of-sets (side-of side) (t .l) x y (entries-of t)))
+        ⌝ }
+{
+    let l = t.l;
+    let n = t.n;
+    let tcare = t.care;
+    let tvalue = t.value;
+    let mut care = [0u32; 256];
+    let mut value = [0u32; 256];
+    let g = equation_list(side, &tcare, &tvalue, n, l, mx, mt, &mut care, &mut value);
+    answered(l, t, g, &care, &value)
+}
+
+// The equation Xx = the term of the tokens.
+pub fn equation(side: Side, t: Table, x: u32, ts: &[u16]) -> Answered
+    ensures { λ r. ⌜ r ≡ equation-call (side-of side) t x (now (ts .entry)) ⌝ }
+{
+    match tables::check(t) {
+        Answer::Refused(r) => refused(r, t),
+        Answer::Accepted => {
+            let l = t.l;
+            match terms::check_equation(l, x, ts) {
+                Checked::Refused(r) => refused(r, t),
+                Checked::Variables(m) => equate(side, t, 1u32 << (x - 1), m),
+            }
+        }
+    }
+}
+
+// The entries of the join of two lists.
+fn join_list(
+    side: Side,
+    acare: &[u32; 256],
+    avalue: &[u32; 256],
+    an: usize,
+    bcare: &[u32; 256],
+    bvalue: &[u32; 256],
+    bn: usize,
+    l: u32,
+    care: &mut [u32; 256],
+    value: &mut [u32; 256],
+) -> Grown
+    requires { ⌜ (an ≤ 256) × (bn ≤ 256) × (l ≤ 32) ⌝ }
+    ensures { λ r. ⌜
+        ((α β : Entries) → Holds l (now (acare .entry)) (now (avalue .entry)) an α
+        → Holds l (now (bcare .entry)) (now (bvalue .entry)) bn β → Holds l (now (care .entry)) (now (value .entry)) 0 []
+        → Makes l (now (care .exit)) (now (value .exit)) r (join-lists (side-of side) α β))
+        ⌝ }
+{
+    match side {
+        Side::Positive => {
+            *care = *acare;
+            *value = *avalue;
+            lists::grow_each(care, value, an, l, bcare, bvalue, bn)
+        }
+        Side::Negative => procedures::meets(acare, avalue, an, bcare, bvalue, bn, l, care, value),
+    }
+}
+
+// The join of two good tables of one width.
+fn unite(side: Side, t: Table, u: Table) -> Answered
+    requires { ⌜ GoodTable t × GoodTable u × (u .l ≡ t .l) ⌝ }
+    ensures { λ r. ⌜
+        r ≡ made-or-full (t .l) t (join-lists (side-of side) (entries-of t) (entries-of u))
+        ⌝ }
+{
+    let l = t.l;
+    let an = t.n;
+    let acare = t.care;
+    let avalue = t.value;
+    let bn = u.n;
+    let bcare = u.care;
+    let bvalue = u.value;
+    let mut care = [0u32; 256];
+    let mut value = [0u32; 256];
+    let g = join_list(
+        side,
+        &acare,
+        &avalue,
+        an,
+        &bcare,
+        &bvalue,
+        bn,
+        l,
+        &mut care,
+        &mut value,
+    );
+    answered(l, t, g, &care, &value)
+}
+
+// The join of two tables of one side.
+pub fn join(side: Side, t: Table, u: Table) -> Answered
+    ensures { λ r. ⌜ r ≡ join-call (side-of side) t u ⌝ }
+{
+    match tables::check(t) {
+        Answer::Refused(r) => refused(r, t),
+        Answer::Accepted => match tables::check(u) {
+            Answer::Refused(r) => refused(r, t),
+            Answer::Accepted => {
+                if t.l == u.l {
+                    unite(side, t, u)
+                } else {
+                    refused(Refusal::Unlike, t)
+                }
+            }
+        },
+    }
+}
+
+// The entries of the projection of a list onto the set keep.
+fn projection_list(
+    side: Side,
+    tcare: &[u32; 256],
+    tvalue: &[u32; 256],
+    tn: usize,
+    l: u32,
+    keep: u32,
+    care: &mut [u32; 256],
+    value: &mut [u32; 256],
+) -> Grown
+    requires { ⌜ (tn ≤ 256) × (l ≤ 32) ⌝ }
+    ensures { λ r. ⌜
+        ((k : Bits) (τ : Entries) → Holds l (now (tcare .entry)) (now (tvalue .entry)) tn τ → length k ≡ l
+        → keep ≡ set-word k → Holds (kept k) (now (care .entry)) (now (value .entry)) 0 []
+        → Makes (kept k) (now (care .exit)) (now (value .exit)) r (projection (side-of side) l k τ))
+        ⌝ }
+{
+    match side {
+        Side::Positive => projections::positive(tcare, tvalue, tn, keep, care, value),
+        Side::Negative => projections::negative(tcare, tvalue, tn, l, keep, care, value),
+    }
+}
+
+// The projection of a table onto the variables of the set keep, bit i - 1 for Xi.
+pub fn project(side: Side, t: Table, keep: u32) -> Answered
+    ensures { λ r. ⌜ r ≡ projection-call (side-of side) t keep ⌝ }
+{
+    match tables::check(t) {
+        Answer::Refused(r) => refused(r, t),
+        Answer::Accepted => {
+            let l = t.l;
+            if !((0 < keep) & (keep <= words::full(l))) {
+                return refused(Refusal::Keep, t);
+            }
+            let n = t.n;
+            let tcare = t.care;
+            let tvalue = t.value;
+            let mut care = [0u32; 256];
+            let mut value = [0u32; 256];
+            let g = projection_list(side, &tcare, &tvalue, n, l, keep, &mut care, &mut value);
+            answered(u32::count_ones(keep), t, g, &care, &value)
+        }
+    }
+}
+
+// The table of the other side with the same groups as t on this side: one procedure for both.
+pub fn change_side(side: Side, t: Table) -> Answered
+    ensures { λ r. ⌜ r ≡ change-side-call (side-of side) t ⌝ }
+{
+    match tables::check(t) {
+        Answer::Refused(r) => refused(r, t),
+        Answer::Accepted => {
+            let l = t.l;
+            let n = t.n;
+            let tcare = t.care;
+            let tvalue = t.value;
+            let mut care = [0u32; 256];
+            let mut value = [0u32; 256];
+            let g = sides::change_side(&tcare, &tvalue, n, l, &mut care, &mut value);
+            answered(l, t, g, &care, &value)
+        }
+    }
+}

@@ -1,0 +1,4 @@
+pub mod Sets
+pub mod Naming
+pub mod Reader
+pub mod Checking

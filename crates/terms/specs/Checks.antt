@@ -1,0 +1,78 @@
+-- The checks of an equation handed over by itself (01, "Terms" and "Refusals").
+use mathlib.Core.Bool.{Bool, true, not, _&&_, _||_, cond}
+use mathlib.Core.List.{List, [], _∷_}
+use mathlib.Core.Option.{Option, some, none}
+use Prim.Native.Nat.{ℕ, _-_, _^_}
+use lib.Bits.{bitOr}
+use lib.Dec.{leb}
+use lib.ListN.{length}
+use Rattle.model.specs.Terms.{Term, variables}
+use Rattle.model.specs.Tokens.{is-variable, named, Read, read-row, read-within, read-term, whole-term}
+use Rattle.words.specs.Words.{set-word}
+use Rattle.tables.specs.declared.Refusal.{Refusal}
+use Rattle.tables.specs.declared.Refusal.the-variants as R
+use Rattle.terms.specs.declared.Reading.{Reading}
+use Rattle.terms.specs.declared.Reading.the-variants.{Used, NoTerm}
+use Rattle.terms.specs.declared.Checked.{Checked}
+use Rattle.terms.specs.declared.Checked.the-variants.{Variables, Refused}
+
+-- ---- The reader
+
+-- How many tokens were taken.
+unfoldable pub used : {A : Type 0} → Option (Read A) → Reading
+used none = NoTerm
+used (some r) = Used (r .used)
+
+-- By the term at the front.
+unfoldable pub took : ℕ → List ℕ → Reading
+took l ts = used (read-term l ts)
+
+-- By a row of so many terms at the front.
+unfoldable pub took-row : ℕ → ℕ → List ℕ → Reading
+took-row l count ts = used (read-row (read-within (length ts) l) count ts)
+
+-- ---- The tokens
+
+-- A head, or a variable from 1 to l.
+unfoldable pub token-named : ℕ → ℕ → Bool
+token-named l t = not (is-variable t) || named l t
+
+-- No variable among the tokens is other than 1 to l.
+unfoldable pub all-named : ℕ → List ℕ → Bool
+all-named l [] = true
+all-named l (t ∷ ts) = token-named l t && all-named l ts
+
+-- The word of the variables among the tokens, bit i - 1 for Xi.
+unfoldable pub word-of : List ℕ → ℕ
+word-of [] = 0
+word-of (t ∷ ts) = cond (is-variable t) (bitOr (2 ^ (t - 1)) (word-of ts)) (word-of ts)
+
+-- ---- The checks
+
+-- What was read, or the refusal.
+pub data Outcome (A : Type 0) : Type 0 where
+  reads : A → Outcome A
+  refuses : Refusal → Outcome A
+
+-- The one whole term, or 6.
+unfoldable pub term-or-6 : Option Term → Outcome Term
+term-or-6 (some t) = reads t
+term-or-6 none = refuses R.Term
+
+-- One whole term: 5 for a variable not 1 to l anywhere among the tokens, then 6.
+unfoldable pub check-term : ℕ → List ℕ → Outcome Term
+check-term l ts = cond (all-named l ts) (term-or-6 (whole-term l ts)) (refuses R.Name)
+
+-- The most tokens of an equation.
+abbrev pub most-tokens : ℕ
+most-tokens = 1024
+
+-- The term of an equation: more than 1024 tokens (7), the left variable (5), tokens in order (5), whole term (6).
+unfoldable pub check-equation : ℕ → ℕ → List ℕ → Outcome Term
+check-equation l x ts =
+    cond (leb (length ts) most-tokens) (cond (named l x) (check-term l ts) (refuses R.Name)) (refuses R.Long)
+
+-- What the code answers: of a term that was read, the word of its variables.
+unfoldable pub checked : ℕ → Outcome Term → Checked
+checked l (reads t) = Variables (set-word (variables l t))
+checked l (refuses r) = Refused r

@@ -1,0 +1,125 @@
+// Terms as rows of 16-bit tokens: the reader, and the checks of an equation. Inner: not a public call.
+// Each nested head costs one frame of `read_term` and one of `read_row`, each further argument one of `read_row`: at most 2
+// frames a token. The checks are made of at most 1024 tokens.
+use tables::Refusal;
+ghost use mathlib.Core.Path.{_≡_};
+ghost use mathlib.Core.Bool.{true};
+ghost use Prim.Native.Nat.{_≤_};
+ghost use Rattle.terms.specs.Checks.{took, took-row, all-named, word-of, check-term, check-equation, checked};
+
+// How many tokens a term, or a row of terms, takes; or that there is none.
+enum Reading {
+    Used(usize),
+    NoTerm,
+}
+
+// What the checks of a term say: the set of its variables, bit i - 1 for Xi, or the refusal.
+pub enum Checked {
+    Variables(u32),
+    Refused(Refusal),
+}
+
+// Reads the term at the front of the tokens: a variable token alone, or a head and its row of arguments.
+fn read_term(ts: &[u16], l: u32) -> Reading
+    ensures { λ r. ⌜ r ≡ took l (now (ts .entry)) ⌝ }
+{
+    if ts.len() == 0 {
+        return Reading::NoTerm;
+    }
+    let t = ts[0];
+    if t < 32768 {
+        let x = t as u32;
+        if (0 < x) & (x <= l) {
+            return Reading::Used(1);
+        }
+        return Reading::NoTerm;
+    }
+    let count = (t % 16) as usize;
+    match read_row(&ts[1..], count, l) {
+        Reading::Used(n) => Reading::Used(n + 1),
+        Reading::NoTerm => Reading::NoTerm,
+    }
+}
+
+// Reads a row of so many terms, one after another.
+fn read_row(ts: &[u16], count: usize, l: u32) -> Reading
+    ensures { λ r. ⌜ r ≡ took-row l count (now (ts .entry)) ⌝ }
+{
+    if count == 0 {
+        return Reading::Used(0);
+    }
+    match read_term(ts, l) {
+        Reading::Used(n) => match read_row(&ts[n..], count - 1, l) {
+            Reading::Used(m) => Reading::Used(n + m),
+            Reading::NoTerm => Reading::NoTerm,
+        },
+        Reading::NoTerm => Reading::NoTerm,
+    }
+}
+
+// Is every variable among the tokens one of X1 to Xl?
+fn all_named(ts: &[u16], l: u32) -> bool
+    ensures { λ r. ⌜ r ≡ all-named l (now (ts .entry)) ⌝ }
+{
+    let mut good = true;
+    let mut i = 0;
+    while i < ts.len() {
+        let t = ts[i];
+        let x = t as u32;
+        good = good & ((32768 <= t) | ((0 < x) & (x <= l)));
+        i += 1;
+    }
+    good
+}
+
+// The variables among the tokens, bit i - 1 for Xi.
+fn variables(ts: &[u16], l: u32) -> u32
+    requires { ⌜ (l ≤ 32) × (all-named l (now ts) ≡ true) ⌝ }
+    ensures { λ r. ⌜ r ≡ word-of (now (ts .entry)) ⌝ }
+{
+    let mut set = 0u32;
+    let mut i = 0;
+    while i < ts.len() {
+        let t = ts[i];
+        if t < 32768 {
+            let x = t as u32;
+            set = set | (1u32 << (x - 1));
+        }
+        i += 1;
+    }
+    set
+}
+
+// One whole term: 5 for a variable not 1 to l anywhere among the tokens, then 6.
+pub fn check_term(l: u32, ts: &[u16]) -> Checked
+    requires { ⌜ l ≤ 32 ⌝ }
+    ensures { λ r. ⌜ r ≡ checked l (check-term l (now (ts .entry))) ⌝ }
+{
+    if !all_named(ts, l) {
+        return Checked::Refused(Refusal::Name);
+    }
+    match read_term(ts, l) {
+        Reading::Used(n) => {
+            if n == ts.len() {
+                Checked::Variables(variables(ts, l))
+            } else {
+                Checked::Refused(Refusal::Term)
+            }
+        }
+        Reading::NoTerm => Checked::Refused(Refusal::Term),
+    }
+}
+
+// An equation handed over by itself: more than 1024 tokens (7), the left variable (5), tokens in order (5), whole term (6).
+pub fn check_equation(l: u32, x: u32, ts: &[u16]) -> Checked
+    requires { ⌜ l ≤ 32 ⌝ }
+    ensures { λ r. ⌜ r ≡ checked l (check-equation l x (now (ts .entry))) ⌝ }
+{
+    if 1024 < ts.len() {
+        return Checked::Refused(Refusal::Long);
+    }
+    if !((0 < x) & (x <= l)) {
+        return Checked::Refused(Refusal::Name);
+    }
+    check_term(l, ts)
+}
