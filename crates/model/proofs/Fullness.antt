@@ -7,7 +7,7 @@ use Prim.Native.Nat.{ℕ}
 use native.Mathlib.Omega.{arith}
 use Rattle.model.specs.Groups.{Bits, or, cut}
 use Rattle.model.specs.Strings.{Trits, zeros, ones, stars}
-use Rattle.model.specs.Growth.{_>>=_, fold, Entries, grow, grow-all, widen, widen-grow, Overflows}
+use Rattle.model.specs.Growth.{_>>=_, fold, Entries, grow, widen, widen-grow, Overflows}
 use Rattle.model.specs.Tables.{Side, positive, negative, meets-of, ors, unmatched, pieces-of, relevant, irrelevant, cross}
 use Rattle.model.specs.Tables.{close-with, close, take-away, change-side, positive-equation, negative-equation}
 use Rattle.model.specs.Tables.{equation-of-sets, join, kept, positive-projection, projection}
@@ -116,7 +116,8 @@ negative-full l x t τ =
     then-full (change-full l R) (λ K. full-exact [] (meets-of C K)))))))))
 
 -- Equation, of either side.
-pub equation-full : (side : Side) (l : ℕ) (x t : Bits) (τ : Entries) → (equation-of-sets side l x t τ ≡ none) ↔ EquationFull side l x t τ
+pub equation-full : (side : Side) (l : ℕ) (x t : Bits) (τ : Entries)
+    → (equation-of-sets side l x t τ ≡ none) ↔ EquationFull side l x t τ
 unfolding equation-of-sets EquationFull
 equation-full positive l x t τ = positive-full x t τ
 equation-full negative l x t τ = negative-full l x t τ

@@ -1,8 +1,8 @@
 -- Sets of variables as words, and the lists of one string that the procedures start from. Assumes nothing.
-use mathlib.Core.Path.{_≡_, refl, sym, ap, _∙_}
-use mathlib.Core.Bool.{Bool, true, false, cond}
+use mathlib.Core.Path.{_≡_, refl, sym, _∙_}
+use mathlib.Core.Bool.{true, false}
 use mathlib.Core.List.{List, [], _∷_}
-use Prim.Native.Nat.{ℕ, suc, _+_, _*_}
+use Prim.Native.Nat.{ℕ}
 use native.Mathlib.Omega.{arith}
 use lib.Count.{ones}
 use lib.ListN.{length, set, replicate}
@@ -47,7 +47,8 @@ kept-ones k = rw (zeros-care k) at (count-word (zeros k)) ∙ kept-fixed k
 pub holds-zeros : (l m : ℕ) (k : Bits) → length k ≡ l → m ≡ set-word k
     → Holds l (set (replicate 256 0) 0 m) (replicate 256 0) 1 (zeros k ∷ [])
 holds-zeros l m k e is =
-    holds-append (holds-empty l) (zeros k) (record { care = m; value = 0 }) (rw is (zeros-word k)) (zeros-length k ∙ e) (omega arith)
+    holds-append (holds-empty l) (zeros k) (record { care = m; value = 0 }) (rw is (zeros-word k)) (zeros-length k ∙ e)
+    (omega arith)
 
 -- zeros and a count of 1 hold the all-star string
 pub holds-stars : {l : ℕ} {care value : List ℕ} → Holds l care value 0 [] → Holds l care value 1 (stars l ∷ [])

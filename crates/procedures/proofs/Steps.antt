@@ -9,8 +9,8 @@ use Rattle.tables.specs.declared.lists.Grown.the-variants.{Count, Full}
 use Rattle.tables.specs.Lists.{Holds, Makes, stops}
 use Rattle.tables.proofs.Toward.{makes-count, makes-full}
 
-module _ {l : ℕ} {care value : List ℕ} {g : Grown} {o : Option Entries} (told : Makes l care value g o) (k : Entries → Option Entries)
-    {l′ : ℕ} {care′ value′ : List ℕ} where
+module _ {l : ℕ} {care value : List ℕ} {g : Grown} {o : Option Entries} (told : Makes l care value g o)
+    (k : Entries → Option Entries) {l′ : ℕ} {care′ value′ : List ℕ} where
   pub makes-then : {n : ℕ} {r : Grown} → g ≡ Count n → ((τ : Entries) → Holds l care value n τ → Makes l′ care′ value′ r (k τ))
       → Makes l′ care′ value′ r (o >>= k)
   unfolding _>>=_

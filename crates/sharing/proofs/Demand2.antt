@@ -1,13 +1,13 @@
 -- Demand 2 of the calls themselves, both sides. Assumes nothing.
-use mathlib.Core.Path.{_≡_, refl, sym, ap, _∙_, subst}
-use mathlib.Core.Bool.{Bool, true, false, _&&_, cond}
+use mathlib.Core.Path.{_≡_, refl, sym, _∙_, subst}
+use mathlib.Core.Bool.{Bool, true, false, cond}
 use mathlib.Core.List.{List, [], _∷_}
 use mathlib.Core.Logic.{inl, inr, _↔_}
 use mathlib.Core.Option.{Option, some, none}
 use Prim.Native.Nat.{ℕ, _^_, _≤_, _<_}
 use native.Mathlib.Omega.{arith}
 use borrow.Author.Tests.{ltb-true, eqb-true, eqb-false, lt-ltb, le-leb, ne-eqb}
-use lib.Dec.{T, ltb, leb, eqb}
+use lib.Dec.{T, ltb, eqb}
 use lib.ListN.{length}
 use Rattle.model.specs.Groups.{Bits, Groups, nonzero, cut, Projected, Joined}
 use Rattle.model.specs.Growth.{Entries}
@@ -34,7 +34,8 @@ use Rattle.terms.specs.Checks as C
 use Rattle.sharing.specs.Calls.{after-check, after-term, good-keep, projected, equation-call, join-call, projection-call}
 use Rattle.sharing.specs.Calls.{change-side-call}
 use Rattle.sharing.specs.Outcomes.{groups-of, Becomes, Outcome, early, full, accepted, EquationOutcome, JoinOutcome}
-use Rattle.sharing.specs.Outcomes.{ProjectionOutcome, ChangeOutcome, TableValue, EquationEarly, EquationReady, JoinEarly, JoinReady}
+use Rattle.sharing.specs.Outcomes.{ProjectionOutcome, ChangeOutcome, TableValue, EquationEarly, EquationReady}
+use Rattle.sharing.specs.Outcomes.{JoinEarly, JoinReady}
 use Rattle.sharing.specs.Outcomes.{ProjectionEarly, ProjectionReady}
 
 -- the table of a good list stands for the list's groups
@@ -136,8 +137,9 @@ unfolding good-width good-keep
 kept-width l keep w h =
     let k = set l keep in
     let b = both-true (ltb 0 keep) (ltb keep (2 ^ l)) h in
-    let some : nonzero k ≡ true =
-    nonzero-word k ∙ rw (set-word-set l keep (ltb-true keep (2 ^ l) (b .1)), ne-eqb keep 0 (λ z. let p = ltb-true 0 keep (b .0) in omega arith)) in
+    let back = set-word-set l keep (ltb-true keep (2 ^ l) (b .1)) in
+    let more = ltb-true 0 keep (b .0) in
+    let some : nonzero k ≡ true = nonzero-word k ∙ rw (back, ne-eqb keep 0 (λ z. omega arith)) in
     let most = kept-most k in
     let few = width-most l w in
     let long = set-length l keep in

@@ -18,19 +18,26 @@ enum-known-m : tie.Need-enum-known-m
 enum-known-m c = search needs
 
 grow-requires : tie.Need-grow-requires
-grow-requires c κs = (within-count (c .before .before .before .before .before .grow-each .ensures .0) (c .before .before .before .m .given .1), omega arith)
+grow-requires c κs =
+    let at-m = c .before .before .before in
+    let at-grow-each = at-m .before .before in
+    let start = at-grow-each .before .before .before .before .before .before .before .before .before .before in
+    (within-count (at-grow-each .grow-each .ensures .0) (at-m .m .given .1), omega (arith, start .pre .1))
 
 enum-told : tie.Need-enum-told
 enum-told c = search needs
 
 returns : tie.Need-returns
 returns c =
-    let g = c .before .before .before .before .before .before .grow-each in
-    let row = c .before .before .before .before .before .before .before .before .before .before .before .or-row in (
+    let at-m = c .before .before .before .before in
+    let at-grow-each = at-m .before .before in
+    let at-or-row = at-grow-each .before .before .before .before .before in
+    let g = at-grow-each .grow-each in
+    let row = at-or-row .or-row in (
       c .grow .ensures .0,
       λ τ s h e is.
           rw (close-row τ s)
-          (makes-then (g .ensures .1 τ _ h (row .ensures .1 _ τ s h e is (holds-empty _))) (λ S. grow S s) (c .before .before .before .before .m .given .1)
+          (makes-then (g .ensures .1 τ _ h (row .ensures .1 _ τ s h e is (holds-empty _))) (λ S. grow S s) (at-m .m .given .1)
           (λ S k. leaves-makes (c .grow .ensures .1 S s k e is))),
     )
 

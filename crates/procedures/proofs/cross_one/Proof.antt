@@ -11,8 +11,9 @@ grow-each-requires c κs = search needs
 
 returns : tie.Need-returns
 returns c =
+    let at-or-row = c .before .before .before .before .before in
     let g = c .grow-each .ensures in
-    (g .0, λ β s b e is τ h. g .1 τ _ h (c .before .before .before .before .before .or-row .ensures .1 _ β s b e is (holds-empty _)))
+    (g .0, λ β s b e is τ h. g .1 τ _ h (at-or-row .or-row .ensures .1 _ β s b e is (holds-empty _)))
 
 pub cross-one-spec : {M : Type 1} → statement M
 cross-one-spec = tie.close (tie.spec or-row-requires grow-each-requires returns)

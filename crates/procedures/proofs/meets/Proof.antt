@@ -1,7 +1,9 @@
 use mathlib.Core.List.{[]}
+use mathlib.Core.Option.{Option}
 use Prim.Native.Nat.{_-_, _≤_}
 use native.Mathlib.Omega.{arith}
 use lib.ListN.{getD}
+use Rattle.model.specs.Strings.{Trits}
 use Rattle.model.specs.Growth.{Entries, grow-all}
 use Rattle.model.specs.Tables.{meets-with, meets-of}
 use Rattle.tables.specs.Lists.{Holds, stops}
@@ -12,17 +14,21 @@ use borrow.Author.Needs.{needs}
 use Rattle.procedures.proofs.meets.Statement.{statement}
 use Rattle.procedures.proofs.meets.Tie as tie
 
+-- one string of the first list
+abbrev step : Entries → Entries → Trits → Option Entries
+step β R s = grow-all R (meets-with s β)
+
 abbrev Inv-loop : tie.InvT-loop
 Inv-loop acare avalue an bcare bvalue bn l care₀ value₀ n₀ i₀ care value n i =
     (i ≤ an) × (n ≤ 256)
     × ((α β : Entries) → Holds l acare avalue an α → Holds l bcare bvalue bn β → Holds l care₀ value₀ 0 []
-    → Toward l (λ R s. grow-all R (meets-with s β)) α [] (grow-all [] (meets-of α β)) care value n i)
+    → Toward l (step β) α [] (grow-all [] (meets-of α β)) care value n i)
 
 abbrev μ-loop : tie.MeasureT-loop
 μ-loop acare avalue an bcare bvalue bn l care₀ value₀ n₀ i₀ care value n i = an - i
 
 loop-holds : tie.Need-loop-holds Inv-loop μ-loop
-loop-holds c = (omega arith, omega arith, λ α β h b e. toward-start _ (λ R s. grow-all R (meets-with s β)) α [] _ e (meets-fold β [] α))
+loop-holds c = (omega arith, omega arith, λ α β h b e. toward-start _ (step β) α [] _ e (meets-fold β [] α))
 
 mul-t15 : tie.Need-mul-t15 Inv-loop μ-loop
 mul-t15 c = search needs
@@ -46,15 +52,17 @@ enum-told : tie.Need-enum-told Inv-loop μ-loop
 enum-told c = search needs
 
 returns : tie.Need-returns Inv-loop μ-loop
-returns c = (
-  tt,
-  λ α β h b e.
-      let lp = c .before .before .before .before .before .before .before .before .loop in
-      let w = lp .inv .2 α β h b e in
-      let told = c .before .before .meets-one .ensures .1 β (getD α (lp .i) []) b (holds-length h (lp .i) (omega arith))
-      (holds-at h (lp .i) (omega arith)) _ (w .list) in
-      rw (toward-stop _ (λ R s. grow-all R (meets-with s β)) α [] _ w (omega (arith, h .count)) told (c .enum-told .given .1)) stops,
-)
+returns c =
+    let at-meets-one = c .before .before in
+    let at-loop = at-meets-one .before .before .before .before .before .before in (
+      tt,
+      λ α β h b e.
+          let lp = at-loop .loop in
+          let w = lp .inv .2 α β h b e in
+          let told = at-meets-one .meets-one .ensures .1 β (getD α (lp .i) []) b (holds-length h (lp .i) (omega arith))
+          (holds-at h (lp .i) (omega arith)) _ (w .list) in
+          rw (toward-stop _ (step β) α [] _ w (omega (arith, h .count)) told (c .enum-told .given .1)) stops,
+    )
 
 add-i : tie.Need-add-i Inv-loop μ-loop
 add-i c = search needs
@@ -64,21 +72,23 @@ loop-less c = search needs
 
 loop-again : tie.Need-loop-again Inv-loop μ-loop
 loop-again c =
-    let lp = c .before .before .before .before .before .before .before .before .before .loop in
+    let at-meets-one = c .before .before .before in
+    let at-loop = at-meets-one .before .before .before .before .before .before in
+    let lp = at-loop .loop in
     let is = c .before .k .given .1 in (
       omega arith,
-      within-count (c .before .before .before .meets-one .ensures .0) is,
+      within-count (at-meets-one .meets-one .ensures .0) is,
       λ α β h b e.
           let w = lp .inv .2 α β h b e in
-          let told = c .before .before .before .meets-one .ensures .1 β (getD α (lp .i) []) b (holds-length h (lp .i) (omega arith))
+          let told = at-meets-one .meets-one .ensures .1 β (getD α (lp .i) []) b (holds-length h (lp .i) (omega arith))
           (holds-at h (lp .i) (omega arith)) _ (w .list) in
-          toward-step _ (λ R s. grow-all R (meets-with s β)) α [] _ w (omega (arith, h .count)) told is,
+          toward-step _ (step β) α [] _ w (omega (arith, h .count)) told is,
     )
 
 returns-2 : tie.Need-returns-2 Inv-loop μ-loop
 returns-2 c =
     let lp = c .before .loop in
-    (lp .inv .1, λ α β h b e. toward-end _ (λ R s. grow-all R (meets-with s β)) α [] _ (lp .inv .2 α β h b e) (omega (arith, h .count)))
+    (lp .inv .1, λ α β h b e. toward-end _ (step β) α [] _ (lp .inv .2 α β h b e) (omega (arith, h .count)))
 
 pub meets-spec : {M : Type 1} → statement M
 meets-spec =

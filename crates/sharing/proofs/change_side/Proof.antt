@@ -21,7 +21,9 @@ enum-told c = search needs
 
 change-side-requires : tie.Need-change-side-requires
 change-side-requires c κs =
-    let g = c .before .before .before .before .before .before .before .before .check .ensures .1 .0 (c .before .before .before .before .before .before .enum-told .given .1) in
+    let at-enum-told = c .before .before .before .before .before .before in
+    let at-check = at-enum-told .before .before in
+    let g = at-check .check .ensures .1 .0 (at-enum-told .enum-told .given .1) in
     (good-few g, good-wide g)
 
 answered-requires : tie.Need-answered-requires
@@ -29,14 +31,20 @@ answered-requires c κs = search needs
 
 returns : tie.Need-returns
 unfolding change-side-call after-check
-returns c = rw (c .refused .ensures, sym (c .before .before .before .before .check .ensures .0) ∙ c .before .before .r .given .1)
+returns c =
+    let at-r = c .before .before in
+    let at-check = at-r .before .before in
+    rw (c .refused .ensures, sym (at-check .check .ensures .0) ∙ at-r .r .given .1)
 
 returns-2 : tie.Need-returns-2
 unfolding change-side-call after-check
 returns-2 c =
-    let g = c .before .before .before .before .before .before .before .before .before .before .before .before .check .ensures .1 .0 (c .before .before .before .before .before .before .before .before .before .before .enum-told .given .1) in
-    rw (sym (c .before .before .before .before .before .before .before .before .before .before .before .before .check .ensures .0) ∙ c .before .before .before .before .before .before .before .before .before .before .enum-told .given .1)
-    (c .answered .ensures _ (c .before .before .before .change-side .ensures .1 _ (good-holds g) (holds-empty _)))
+    let at-change-side = c .before .before .before in
+    let at-enum-told = at-change-side .before .before .before .before .before .before .before in
+    let at-check = at-enum-told .before .before in
+    let g = at-check .check .ensures .1 .0 (at-enum-told .enum-told .given .1) in
+    rw (sym (at-check .check .ensures .0) ∙ at-enum-told .enum-told .given .1)
+    (c .answered .ensures _ (at-change-side .change-side .ensures .1 _ (good-holds g) (holds-empty _)))
 
 pub change-side-spec : {M : Type 1} → statement M
 change-side-spec =

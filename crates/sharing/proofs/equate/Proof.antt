@@ -13,8 +13,10 @@ answered-requires c κs = search needs
 
 returns : tie.Need-returns
 returns c =
+    let at-equation-list = c .before .before .before in
+    let start = at-equation-list .before .before .before .before .before .before .before in
     λ x y ex ey ix iy. c .answered .ensures _
-    (c .before .before .before .equation-list .ensures _ x y (good-holds (c .before .before .before .before .before .before .before .before .before .before .pre)) ex ey ix iy (holds-empty _))
+    (at-equation-list .equation-list .ensures _ x y (good-holds (start .pre)) ex ey ix iy (holds-empty _))
 
 pub equate-spec : {M : Type 1} → statement M
 equate-spec = tie.close (tie.spec equation-list-requires answered-requires returns)

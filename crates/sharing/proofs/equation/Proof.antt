@@ -43,34 +43,52 @@ sub-equate c =
 
 shl-equate : tie.Need-shl-equate
 shl-equate c =
-    let r = read-equation _ _ _ _ (sym (c .before .before .before .check-equation .ensures) ∙ c .before .m .given .1) in
-    let w = good-wide (c .before .before .before .before .before .before .check .ensures .1 .0 (c .before .before .before .before .enum-told .given .1)) in
+    let at-check-equation = c .before .before .before in
+    let at-enum-told = at-check-equation .before in
+    let at-check = at-enum-told .before .before in
+    let r = read-equation _ _ _ _ (sym (at-check-equation .check-equation .ensures) ∙ c .before .m .given .1) in
+    let w = good-wide (at-check .check .ensures .1 .0 (at-enum-told .enum-told .given .1)) in
     omega (arith, r .high, r .low)
 
 equate-requires : tie.Need-equate-requires
-equate-requires c κs = c .before .before .before .before .before .before .check .ensures .1 .0 (c .before .before .before .before .enum-told .given .1)
+equate-requires c κs =
+    let at-enum-told = c .before .before .before .before in
+    let at-check = at-enum-told .before .before in
+    at-check .check .ensures .1 .0 (at-enum-told .enum-told .given .1)
 
 returns : tie.Need-returns
 unfolding equation-call after-check
-returns c = rw (c .refused .ensures, sym (c .before .before .before .before .check .ensures .0) ∙ c .before .before .r .given .1)
+returns c =
+    let at-r = c .before .before in
+    let at-check = at-r .before .before in
+    rw (c .refused .ensures, sym (at-check .check .ensures .0) ∙ at-r .r .given .1)
 
 returns-2 : tie.Need-returns-2
 unfolding equation-call after-check after-term
 returns-2 c =
+    let at-r2 = c .before .before in
+    let at-check-equation = at-r2 .before .before in
+    let at-enum-told = at-check-equation .before in
+    let at-check = at-enum-told .before .before in
     rw (
       c .refused2 .ensures,
-      sym (c .before .before .before .before .before .before .before .check .ensures .0) ∙ c .before .before .before .before .before .enum-told .given .1,
-      refused-outcome _ _ _ (sym (c .before .before .before .before .check-equation .ensures) ∙ c .before .before .r2 .given .1),
+      sym (at-check .check .ensures .0) ∙ at-enum-told .enum-told .given .1,
+      refused-outcome _ _ _ (sym (at-check-equation .check-equation .ensures) ∙ at-r2 .r2 .given .1),
     )
 
 returns-3 : tie.Need-returns-3
 unfolding equation-call after-check after-term equation variables
 returns-3 c =
-    let r = read-equation _ _ _ _ (sym (c .before .before .before .before .check-equation .ensures) ∙ c .before .before .m .given .1) in
-    let w = good-wide (c .before .before .before .before .before .before .before .check .ensures .1 .0 (c .before .before .before .before .before .enum-told .given .1)) in
-    let x = c .before .before .before .before .before .before .before .before .before .args .x in
+    let at-m = c .before .before in
+    let at-check-equation = at-m .before .before in
+    let at-enum-told = at-check-equation .before in
+    let at-check = at-enum-told .before .before in
+    let start = at-check .before .before in
+    let r = read-equation _ _ _ _ (sym (at-check-equation .check-equation .ensures) ∙ at-m .m .given .1) in
+    let w = good-wide (at-check .check .ensures .1 .0 (at-enum-told .enum-told .given .1)) in
+    let x = start .args .x in
     let bit = one-shl (x - 1) 32 (omega (arith, r .high, r .low)) ∙ sym (one-variable _ _ (r .left)) in
-    rw (sym (c .before .before .before .before .before .before .before .check .ensures .0) ∙ c .before .before .before .before .before .enum-told .given .1, r .is)
+    rw (sym (at-check .check .ensures .0) ∙ at-enum-told .enum-told .given .1, r .is)
     (c .equate .ensures _ _ (variables-length _ (var _)) (variables-length _ (r .term)) bit (r .word))
 
 pub equation-spec : {M : Type 1} → statement M

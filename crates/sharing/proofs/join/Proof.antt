@@ -30,36 +30,64 @@ enum-told-2 : tie.Need-enum-told-2
 enum-told-2 c = search needs
 
 unite-requires : tie.Need-unite-requires
-unite-requires c κs = (
-  c .before .before .before .before .before .before .before .before .check .ensures .1 .0 (c .before .before .before .before .before .before .enum-told .given .1),
-  c .before .before .before .before .before .check2 .ensures .1 .0 (c .before .before .before .enum-told2 .given .1),
-  sym (c .if1 .taken),
-)
+unite-requires c κs =
+    let at-enum-told2 = c .before .before .before in
+    let at-check2 = at-enum-told2 .before .before in
+    let at-enum-told = at-check2 .before in
+    let at-check = at-enum-told .before .before in (
+      at-check .check .ensures .1 .0 (at-enum-told .enum-told .given .1),
+      at-check2 .check2 .ensures .1 .0 (at-enum-told2 .enum-told2 .given .1),
+      sym (c .if1 .taken),
+    )
 
 refused-requires-3 : tie.Need-refused-requires-3
 refused-requires-3 c κs = search needs
 
 returns : tie.Need-returns
 unfolding join-call after-check
-returns c = rw (c .refused .ensures, sym (c .before .before .before .before .check .ensures .0) ∙ c .before .before .r .given .1)
+returns c =
+    let at-r = c .before .before in
+    let at-check = at-r .before .before in
+    rw (c .refused .ensures, sym (at-check .check .ensures .0) ∙ at-r .r .given .1)
 
 returns-2 : tie.Need-returns-2
 unfolding join-call after-check
-returns-2 c = rw (c .refused2 .ensures, sym (c .before .before .before .before .before .before .before .check .ensures .0) ∙ c .before .before .before .before .before .enum-told .given .1, sym (c .before .before .before .before .check2 .ensures .0) ∙ c .before .before .r2 .given .1)
+returns-2 c =
+    let at-r2 = c .before .before in
+    let at-check2 = at-r2 .before .before in
+    let at-enum-told = at-check2 .before in
+    let at-check = at-enum-told .before .before in
+    rw (
+      c .refused2 .ensures,
+      sym (at-check .check .ensures .0) ∙ at-enum-told .enum-told .given .1,
+      sym (at-check2 .check2 .ensures .0) ∙ at-r2 .r2 .given .1,
+    )
 
 returns-3 : tie.Need-returns-3
 unfolding join-call after-check
 returns-3 c =
-    rw (sym (c .before .before .before .before .before .before .before .before .before .check .ensures .0) ∙ c .before .before .before .before .before .before .before .enum-told .given .1, sym (c .before .before .before .before .before .before .check2 .ensures .0) ∙ c .before .before .before .before .enum-told2 .given .1, eq-eqb _ _ (c .before .if1 .taken))
+    let at-enum-told2 = c .before .before .before .before in
+    let at-check2 = at-enum-told2 .before .before in
+    let at-enum-told = at-check2 .before in
+    let at-check = at-enum-told .before .before in
+    rw (
+      sym (at-check .check .ensures .0) ∙ at-enum-told .enum-told .given .1,
+      sym (at-check2 .check2 .ensures .0) ∙ at-enum-told2 .enum-told2 .given .1,
+      eq-eqb _ _ (c .before .if1 .taken),
+    )
     (c .unite .ensures)
 
 returns-4 : tie.Need-returns-4
 unfolding join-call after-check
 returns-4 c =
+    let at-enum-told2 = c .before .before .before .before in
+    let at-check2 = at-enum-told2 .before .before in
+    let at-enum-told = at-check2 .before in
+    let at-check = at-enum-told .before .before in
     rw (
       c .refused3 .ensures,
-      sym (c .before .before .before .before .before .before .before .before .before .check .ensures .0) ∙ c .before .before .before .before .before .before .before .enum-told .given .1,
-      sym (c .before .before .before .before .before .before .check2 .ensures .0) ∙ c .before .before .before .before .enum-told2 .given .1,
+      sym (at-check .check .ensures .0) ∙ at-enum-told .enum-told .given .1,
+      sym (at-check2 .check2 .ensures .0) ∙ at-enum-told2 .enum-told2 .given .1,
       ne-eqb _ _ (c .before .if1 .left),
     )
 

@@ -33,17 +33,24 @@ refused-requires-2 c κs = search needs
 returns : tie.Need-returns
 unfolding projection-call after-check projected
 returns c =
-    let a = c .before .before .before .before .before .before .args in
-    let k : good-keep (a .t .l) (a .keep) ≡ false = sym (keep-test _ _ _ (c .before .before .full .ensures)) ∙ not-true _ (c .before .if1 .taken) in
+    let at-full = c .before .before in
+    let at-enum-told = at-full .before in
+    let at-check = at-enum-told .before .before in
+    let start = at-check .before in
+    let a = start .args in
+    let k : good-keep (a .t .l) (a .keep) ≡ false =
+    sym (keep-test _ _ _ (at-full .full .ensures)) ∙ not-true _ (c .before .if1 .taken) in
     rw (
       c .refused2 .ensures,
-      sym (c .before .before .before .before .before .check .ensures .0) ∙ c .before .before .before .enum-told .given .1,
+      sym (at-check .check .ensures .0) ∙ at-enum-told .enum-told .given .1,
       k,
     )
 
 projection-list-requires : tie.Need-projection-list-requires
 projection-list-requires c κs =
-    let g = c .before .before .before .before .before .before .before .before .before .before .check .ensures .1 .0 (c .before .before .before .before .before .before .before .before .enum-told .given .1) in
+    let at-enum-told = c .before .before .before .before .before .before .before .before in
+    let at-check = at-enum-told .before .before in
+    let g = at-check .check .ensures .1 .0 (at-enum-told .enum-told .given .1) in
     (good-few g, good-wide g)
 
 answered-requires : tie.Need-answered-requires
@@ -51,16 +58,24 @@ answered-requires c κs = search needs
 
 returns-2 : tie.Need-returns-2
 unfolding projection-call after-check projected
-returns-2 c = rw (c .refused .ensures, sym (c .before .before .before .before .check .ensures .0) ∙ c .before .before .r .given .1)
+returns-2 c =
+    let at-r = c .before .before in
+    let at-check = at-r .before .before in
+    rw (c .refused .ensures, sym (at-check .check .ensures .0) ∙ at-r .r .given .1)
 
 returns-3 : tie.Need-returns-3
 unfolding projection-call after-check projected
 returns-3 c =
-    let g = c .before .before .before .before .before .before .before .before .before .before .before .before .before .before .check .ensures .1 .0 (c .before .before .before .before .before .before .before .before .before .before .before .before .enum-told .given .1) in
-    let k = sym (keep-test _ _ _ (c .before .before .before .before .before .before .before .before .before .before .before .full .ensures)) ∙ not-false _ (c .before .before .before .before .before .before .before .before .before .before .if1 .left) in
+    let at-projection-list = c .before .before .before in
+    let at-if1 = at-projection-list .before .before .before .before .before .before .before in
+    let at-full = at-if1 .before in
+    let at-enum-told = at-full .before in
+    let at-check = at-enum-told .before .before in
+    let g = at-check .check .ensures .1 .0 (at-enum-told .enum-told .given .1) in
+    let k = sym (keep-test _ _ _ (at-full .full .ensures)) ∙ not-false _ (at-if1 .if1 .left) in
     let below = set-word-set _ _ (keep-below _ _ k) in
-    let told = c .before .before .before .projection-list .ensures _ _ (good-holds g) (set-length _ _) (sym below) (holds-empty _) in
-    rw (sym (c .before .before .before .before .before .before .before .before .before .before .before .before .before .before .check .ensures .0) ∙ c .before .before .before .before .before .before .before .before .before .before .before .before .enum-told .given .1, k)
+    let told = at-projection-list .projection-list .ensures _ _ (good-holds g) (set-length _ _) (sym below) (holds-empty _) in
+    rw (sym (at-check .check .ensures .0) ∙ at-enum-told .enum-told .given .1, k)
     (rw (ap ones (sym below) ∙ kept-ones _) at (c .answered .ensures) _ told)
 
 pub project-spec : {M : Type 1} → statement M

@@ -1,8 +1,8 @@
 use mathlib.Core.Path.{sym, _∙_}
 use native.Mathlib.Omega.{arith}
 use borrow.Author.Tests.{not-true, not-false, le-leb, lt-leb}
-use Rattle.tables.specs.Values.{check-table, entries-of}
-use Rattle.tables.proofs.Checking.{width-most, checked-holds, told-refused, told-accepted}
+use Rattle.tables.specs.Values.{check-table}
+use Rattle.tables.proofs.Checking.{width-most, told-refused, told-accepted}
 use borrow.Author.Needs.{needs}
 use Rattle.tables.proofs.check.Statement.{statement}
 use Rattle.tables.proofs.check.Tie as tie

@@ -18,7 +18,10 @@ enum-known-pn : tie.Need-enum-known-pn
 enum-known-pn c = search needs
 
 change-side-requires : tie.Need-change-side-requires
-change-side-requires c κs = (within-count (c .before .before .before .before .before .before .before .grow .ensures .0) (c .before .before .before .before .before .pn .given .1), omega arith)
+change-side-requires c κs =
+    let at-pn = c .before .before .before .before .before in
+    let at-grow = at-pn .before .before in
+    (within-count (at-grow .grow .ensures .0) (at-pn .pn .given .1), omega arith)
 
 enum-told : tie.Need-enum-told
 enum-told c = search needs
@@ -26,18 +29,26 @@ enum-told c = search needs
 returns : tie.Need-returns
 unfolding having-set
 returns c =
-    let g = c .before .before .before .before .before .before .before .before .grow .ensures in (
+    let at-pn = c .before .before .before .before .before .before in
+    let at-grow = at-pn .before .before in
+    let g = at-grow .grow .ensures in (
       c .change-side .ensures .0,
       λ τ k h e is z.
-          makes-then (leaves-makes (g .1 τ (zeros k) h (zeros-length k ∙ e) (rw is (zeros-word k)))) (change-side _) (c .before .before .before .before .before .before .pn .given .1)
+          makes-then (leaves-makes (g .1 τ (zeros k) h (zeros-length k ∙ e) (rw is (zeros-word k)))) (change-side _)
+          (at-pn .pn .given .1)
           (λ P p. c .change-side .ensures .1 P p z),
     )
 
 returns-2 : tie.Need-returns-2
 unfolding having-set
 returns-2 c =
-    let g = c .before .before .grow .ensures in
-    (tt, λ τ k h e is z. stops-then (leaves-makes (g .1 τ (zeros k) h (zeros-length k ∙ e) (rw is (zeros-word k)))) (change-side _) (c .enum-told .given .1))
+    let at-grow = c .before .before in
+    let g = at-grow .grow .ensures in (
+      tt,
+      λ τ k h e is z.
+          stops-then (leaves-makes (g .1 τ (zeros k) h (zeros-length k ∙ e) (rw is (zeros-word k)))) (change-side _)
+          (c .enum-told .given .1),
+    )
 
 pub having-spec : {M : Type 1} → statement M
 having-spec =

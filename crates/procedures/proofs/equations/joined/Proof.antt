@@ -15,7 +15,10 @@ enum-known-k : tie.Need-enum-known-k
 enum-known-k c = search needs
 
 close-requires : tie.Need-close-requires
-close-requires c κs = (within-count (c .before .before .before .before .before .before .before .cross .ensures .0) (c .before .before .before .before .before .k .given .1), omega arith)
+close-requires c κs =
+    let at-k = c .before .before .before .before .before in
+    let at-cross = at-k .before .before in
+    (within-count (at-cross .cross .ensures .0) (at-k .k .given .1), omega arith)
 
 enum-told : tie.Need-enum-told
 enum-told c = search needs
@@ -23,10 +26,12 @@ enum-told c = search needs
 returns : tie.Need-returns
 unfolding closed-cross
 returns c =
-    let x = c .before .before .before .before .before .before .before .before .cross .ensures in (
+    let at-k = c .before .before .before .before .before .before in
+    let at-cross = at-k .before .before in
+    let x = at-cross .cross .ensures in (
       c .close .ensures .0,
       λ α β h b e.
-          makes-then (x .1 α β h b (holds-empty _)) close (c .before .before .before .before .before .before .k .given .1) (λ C k. c .close .ensures .1 C k e),
+          makes-then (x .1 α β h b (holds-empty _)) close (at-k .k .given .1) (λ C k. c .close .ensures .1 C k e),
     )
 
 returns-2 : tie.Need-returns-2

@@ -28,11 +28,15 @@ enum-known-cn : tie.Need-enum-known-cn
 enum-known-cn c = search needs
 
 meets-requires : tie.Need-meets-requires
-meets-requires c κs = (
-  within-count (c .before .before .before .before .before .before .before .before .before .lacking .ensures .0) (c .before .before .before .before .before .before .before .cn .given .1),
-  within-count (c .before .before .before .before .before .before .before .before .before .before .before .before .before .before .before .negative-joined .ensures .0) (c .before .before .before .before .before .before .before .before .before .before .before .before .before .kn .given .1),
-  omega arith,
-)
+meets-requires c κs =
+    let at-cn = c .before .before .before .before .before .before .before in
+    let at-lacking = at-cn .before .before in
+    let at-kn = at-lacking .before .before .before .before in
+    let at-negative-joined = at-kn .before .before in (
+      within-count (at-lacking .lacking .ensures .0) (at-cn .cn .given .1),
+      within-count (at-negative-joined .negative-joined .ensures .0) (at-kn .kn .given .1),
+      omega arith,
+    )
 
 enum-told : tie.Need-enum-told
 enum-told c = search needs
@@ -42,28 +46,35 @@ enum-told-2 c = search needs
 
 returns : tie.Need-returns
 returns c =
-    let a = c .before .before .before .before .before .before .before .before .before .before .before .before .before .before .before .before .negative-joined .ensures in
-    let b = c .before .before .before .before .before .before .before .before .before .before .lacking .ensures in (
+    let at-cn = c .before .before .before .before .before .before .before .before in
+    let at-lacking = at-cn .before .before in
+    let at-kn = at-lacking .before .before .before .before in
+    let at-negative-joined = at-kn .before .before in
+    let a = at-negative-joined .negative-joined .ensures in
+    let b = at-lacking .lacking .ensures in (
       c .meets .ensures .0,
       λ τ x t h ex et ix it z.
           rw (negative-regrouped _ x t τ)
           (makes-then (a .1 τ x t h ex et ix it (holds-empty _))
-          (λ K. grow-all τ (ones (or x t)) >>= λ C. grow-all [] (meets-of C K)) (c .before .before .before .before .before .before .before .before .before .before .before .before .before .before .kn .given .1)
+          (λ K. grow-all τ (ones (or x t)) >>= λ C. grow-all [] (meets-of C K)) (at-kn .kn .given .1)
           (λ K p.
           makes-then (b .1 τ (or x t) h (or-length x t _ ex et) (rw (ix, it) (sym (set-word-or x t))))
-          (λ C. grow-all [] (meets-of C K)) (c .before .before .before .before .before .before .before .before .cn .given .1)
+          (λ C. grow-all [] (meets-of C K)) (at-cn .cn .given .1)
           (λ C q. c .meets .ensures .1 C K q p z))),
     )
 
 returns-2 : tie.Need-returns-2
 returns-2 c =
-    let a = c .before .before .before .before .before .before .before .before .negative-joined .ensures in
-    let b = c .before .before .lacking .ensures in (
+    let at-lacking = c .before .before in
+    let at-kn = at-lacking .before .before .before .before in
+    let at-negative-joined = at-kn .before .before in
+    let a = at-negative-joined .negative-joined .ensures in
+    let b = at-lacking .lacking .ensures in (
       tt,
       λ τ x t h ex et ix it z.
           rw (negative-regrouped _ x t τ)
           (makes-then (a .1 τ x t h ex et ix it (holds-empty _))
-          (λ K. grow-all τ (ones (or x t)) >>= λ C. grow-all [] (meets-of C K)) (c .before .before .before .before .before .before .kn .given .1)
+          (λ K. grow-all τ (ones (or x t)) >>= λ C. grow-all [] (meets-of C K)) (at-kn .kn .given .1)
           (λ K p. stops-then (b .1 τ (or x t) h (or-length x t _ ex et) (rw (ix, it) (sym (set-word-or x t))))
           (λ C. grow-all [] (meets-of C K)) (c .enum-told .given .1))),
     )

@@ -22,17 +22,26 @@ enum-known-bn : tie.Need-enum-known-bn
 enum-known-bn c = search needs
 
 joined-requires : tie.Need-joined-requires
-joined-requires c κs = (
-  within-count (c .before .before .before .before .before .before .before .before .before .before .before .before .before .before .before .having .ensures .0) (c .before .before .before .before .before .before .before .before .before .before .before .before .before .an .given .1),
-  within-count (c .before .before .before .before .before .before .before .before .before .having2 .ensures .0) (c .before .before .before .before .before .before .before .bn .given .1),
-  omega arith,
-)
+joined-requires c κs =
+    let at-bn = c .before .before .before .before .before .before .before in
+    let at-having2 = at-bn .before .before in
+    let at-an = at-having2 .before .before .before .before in
+    let at-having = at-an .before .before in (
+      within-count (at-having .having .ensures .0) (at-an .an .given .1),
+      within-count (at-having2 .having2 .ensures .0) (at-bn .bn .given .1),
+      omega arith,
+    )
 
 enum-known-rn : tie.Need-enum-known-rn
 enum-known-rn c = search needs
 
 change-side-requires : tie.Need-change-side-requires
-change-side-requires c κs = (within-count (c .before .before .before .before .before .before .before .joined .ensures .0) (c .before .before .before .before .before .rn .given .1), omega (arith, c .before .before .before .before .before .before .before .before .before .before .before .before .before .before .before .before .before .before .before .before .before .before .before .before .before .before .pre .1))
+change-side-requires c κs =
+    let at-rn = c .before .before .before .before .before in
+    let at-joined = at-rn .before .before in
+    let midway = at-joined .before .before .before .before .before .before .before .before .before in
+    let start = midway .before .before .before .before .before .before .before .before .before .before in
+    (within-count (at-joined .joined .ensures .0) (at-rn .rn .given .1), omega (arith, start .pre .1))
 
 enum-told : tie.Need-enum-told
 enum-told c = search needs
@@ -46,45 +55,60 @@ enum-told-3 c = search needs
 returns : tie.Need-returns
 unfolding negative-joined
 returns c =
-    let a = c .before .before .before .before .before .before .before .before .before .before .before .before .before .before .before .before .before .before .before .before .before .before .before .before .having .ensures in
-    let b = c .before .before .before .before .before .before .before .before .before .before .before .before .before .before .before .before .before .before .having2 .ensures in
-    let j = c .before .before .before .before .before .before .before .before .joined .ensures in (
+    let at-rn = c .before .before .before .before .before .before in
+    let at-joined = at-rn .before .before in
+    let at-bn = at-joined .before .before .before .before .before .before .before .before in
+    let at-having2 = at-bn .before .before in
+    let at-an = at-having2 .before .before .before .before in
+    let at-having = at-an .before .before in
+    let a = at-having .having .ensures in
+    let b = at-having2 .having2 .ensures in
+    let j = at-joined .joined .ensures in (
       c .change-side .ensures .0,
       λ τ x t h ex et ix it z.
           makes-then (a .1 τ x h ex ix (holds-empty _))
-          (λ A. having-set _ t τ >>= λ B. closed-cross A B >>= change-side _) (c .before .before .before .before .before .before .before .before .before .before .before .before .before .before .before .before .before .before .before .before .before .before .an .given .1)
+          (λ A. having-set _ t τ >>= λ B. closed-cross A B >>= change-side _) (at-an .an .given .1)
           (λ A p.
-          makes-then (b .1 τ t h et it (holds-empty _)) (λ B. closed-cross A B >>= change-side _) (c .before .before .before .before .before .before .before .before .before .before .before .before .before .before .before .before .bn .given .1)
+          makes-then (b .1 τ t h et it (holds-empty _)) (λ B. closed-cross A B >>= change-side _) (at-bn .bn .given .1)
           (λ B q.
-          makes-then (j .1 A B p q (holds-empty _)) (change-side _) (c .before .before .before .before .before .before .rn .given .1)
+          makes-then (j .1 A B p q (holds-empty _)) (change-side _) (at-rn .rn .given .1)
           (λ R r. c .change-side .ensures .1 R r z))),
     )
 
 returns-2 : tie.Need-returns-2
 unfolding negative-joined
 returns-2 c =
-    let a = c .before .before .before .before .before .before .before .before .before .before .before .before .before .before .before .before .before .before .having .ensures in
-    let b = c .before .before .before .before .before .before .before .before .before .before .before .before .having2 .ensures in
-    let j = c .before .before .joined .ensures in (
+    let at-joined = c .before .before in
+    let at-bn = at-joined .before .before .before .before .before .before .before .before in
+    let at-having2 = at-bn .before .before in
+    let at-an = at-having2 .before .before .before .before in
+    let at-having = at-an .before .before in
+    let a = at-having .having .ensures in
+    let b = at-having2 .having2 .ensures in
+    let j = at-joined .joined .ensures in (
       tt,
       λ τ x t h ex et ix it z.
           makes-then (a .1 τ x h ex ix (holds-empty _))
-          (λ A. having-set _ t τ >>= λ B. closed-cross A B >>= change-side _) (c .before .before .before .before .before .before .before .before .before .before .before .before .before .before .before .before .an .given .1)
+          (λ A. having-set _ t τ >>= λ B. closed-cross A B >>= change-side _) (at-an .an .given .1)
           (λ A p.
-          makes-then (b .1 τ t h et it (holds-empty _)) (λ B. closed-cross A B >>= change-side _) (c .before .before .before .before .before .before .before .before .before .before .bn .given .1)
+          makes-then (b .1 τ t h et it (holds-empty _)) (λ B. closed-cross A B >>= change-side _) (at-bn .bn .given .1)
           (λ B q. stops-then (j .1 A B p q (holds-empty _)) (change-side _) (c .enum-told .given .1))),
     )
 
 returns-3 : tie.Need-returns-3
 unfolding negative-joined
 returns-3 c =
-    let a = c .before .before .before .before .before .before .before .before .having .ensures in
-    let b = c .before .before .having2 .ensures in (
+    let at-having2 = c .before .before in
+    let at-an = at-having2 .before .before .before .before in
+    let at-having = at-an .before .before in
+    let a = at-having .having .ensures in
+    let b = at-having2 .having2 .ensures in (
       tt,
       λ τ x t h ex et ix it z.
           makes-then (a .1 τ x h ex ix (holds-empty _))
-          (λ A. having-set _ t τ >>= λ B. closed-cross A B >>= change-side _) (c .before .before .before .before .before .before .an .given .1)
-          (λ A p. stops-then (b .1 τ t h et it (holds-empty _)) (λ B. closed-cross A B >>= change-side _) (c .enum-told2 .given .1)),
+          (λ A. having-set _ t τ >>= λ B. closed-cross A B >>= change-side _) (at-an .an .given .1)
+          (λ A p.
+          stops-then (b .1 τ t h et it (holds-empty _)) (λ B. closed-cross A B >>= change-side _) (c .enum-told2 .given .1)),
     )
 
 returns-4 : tie.Need-returns-4

@@ -26,11 +26,15 @@ enum-known-k : tie.Need-enum-known-k
 enum-known-k c = search needs
 
 grow-each-requires : tie.Need-grow-each-requires
-grow-each-requires c κs = (
-  within-count (c .before .before .before .before .before .before .before .before .before .before .before .before .before .irrelevant .ensures .0) (c .before .before .before .before .before .before .before .before .before .before .before .n .given .1),
-  omega arith,
-  within-count (c .before .before .before .before .before .before .before .positive-joined .ensures .0) (c .before .before .before .before .before .k .given .1),
-)
+grow-each-requires c κs =
+    let at-k = c .before .before .before .before .before in
+    let at-positive-joined = at-k .before .before in
+    let at-n = at-positive-joined .before .before .before .before in
+    let at-irrelevant = at-n .before .before in (
+      within-count (at-irrelevant .irrelevant .ensures .0) (at-n .n .given .1),
+      omega arith,
+      within-count (at-positive-joined .positive-joined .ensures .0) (at-k .k .given .1),
+    )
 
 enum-told : tie.Need-enum-told
 enum-told c = search needs
@@ -40,15 +44,19 @@ enum-told-2 c = search needs
 
 returns : tie.Need-returns
 returns c =
-    let a = c .before .before .before .before .before .before .before .before .before .before .before .before .before .before .irrelevant .ensures in
-    let b = c .before .before .before .before .before .before .before .before .positive-joined .ensures in (
+    let at-k = c .before .before .before .before .before .before in
+    let at-positive-joined = at-k .before .before in
+    let at-n = at-positive-joined .before .before .before .before in
+    let at-irrelevant = at-n .before .before in
+    let a = at-irrelevant .irrelevant .ensures in
+    let b = at-positive-joined .positive-joined .ensures in (
       c .grow-each .ensures .0,
       λ τ x t h ex et ix it z.
           rw (positive-regrouped x t τ)
           (makes-then (a .1 τ (or x t) h (or-length x t _ ex et) (rw (ix, it) (sym (set-word-or x t))) z)
-          (λ I. positive-joined x t τ >>= λ K. grow-all I K) (c .before .before .before .before .before .before .before .before .before .before .before .before .n .given .1)
+          (λ I. positive-joined x t τ >>= λ K. grow-all I K) (at-n .n .given .1)
           (λ I p.
-          makes-then (b .1 τ x t h ex et ix it (holds-empty _)) (λ K. grow-all I K) (c .before .before .before .before .before .before .k .given .1)
+          makes-then (b .1 τ x t h ex et ix it (holds-empty _)) (λ K. grow-all I K) (at-k .k .given .1)
           (λ K q. c .grow-each .ensures .1 I K p q))),
     )
 

@@ -22,11 +22,15 @@ enum-known-bn : tie.Need-enum-known-bn
 enum-known-bn c = search needs
 
 joined-requires : tie.Need-joined-requires
-joined-requires c κs = (
-  within-count (c .before .before .before .before .before .before .before .before .before .before .before .before .before .before .before .relevant .ensures .0) (c .before .before .before .before .before .before .before .before .before .before .before .before .before .an .given .1),
-  within-count (c .before .before .before .before .before .before .before .before .before .relevant2 .ensures .0) (c .before .before .before .before .before .before .before .bn .given .1),
-  omega arith,
-)
+joined-requires c κs =
+    let at-bn = c .before .before .before .before .before .before .before in
+    let at-relevant2 = at-bn .before .before in
+    let at-an = at-relevant2 .before .before .before .before in
+    let at-relevant = at-an .before .before in (
+      within-count (at-relevant .relevant .ensures .0) (at-an .an .given .1),
+      within-count (at-relevant2 .relevant2 .ensures .0) (at-bn .bn .given .1),
+      omega arith,
+    )
 
 enum-told : tie.Need-enum-told
 enum-told c = search needs
@@ -37,32 +41,43 @@ enum-told-2 c = search needs
 returns : tie.Need-returns
 unfolding positive-joined
 returns c =
-    let a = c .before .before .before .before .before .before .before .before .before .before .before .before .before .before .before .before .relevant .ensures in
-    let b = c .before .before .before .before .before .before .before .before .before .before .relevant2 .ensures in (
+    let at-bn = c .before .before .before .before .before .before .before .before in
+    let at-relevant2 = at-bn .before .before in
+    let at-an = at-relevant2 .before .before .before .before in
+    let at-relevant = at-an .before .before in
+    let a = at-relevant .relevant .ensures in
+    let b = at-relevant2 .relevant2 .ensures in (
       c .joined .ensures .0,
       λ τ x t h ex et ix it z.
-          makes-then (a .1 τ x h ex ix (holds-empty _)) (λ A. relevant t τ >>= λ B. closed-cross A B) (c .before .before .before .before .before .before .before .before .before .before .before .before .before .before .an .given .1)
+          makes-then (a .1 τ x h ex ix (holds-empty _)) (λ A. relevant t τ >>= λ B. closed-cross A B) (at-an .an .given .1)
           (λ A p.
-          makes-then (b .1 τ t h et it (holds-empty _)) (λ B. closed-cross A B) (c .before .before .before .before .before .before .before .before .bn .given .1)
+          makes-then (b .1 τ t h et it (holds-empty _)) (λ B. closed-cross A B) (at-bn .bn .given .1)
           (λ B q. c .joined .ensures .1 A B p q z)),
     )
 
 returns-2 : tie.Need-returns-2
 unfolding positive-joined
 returns-2 c =
-    let a = c .before .before .before .before .before .before .before .before .relevant .ensures in
-    let b = c .before .before .relevant2 .ensures in (
+    let at-relevant2 = c .before .before in
+    let at-an = at-relevant2 .before .before .before .before in
+    let at-relevant = at-an .before .before in
+    let a = at-relevant .relevant .ensures in
+    let b = at-relevant2 .relevant2 .ensures in (
       tt,
       λ τ x t h ex et ix it z.
-          makes-then (a .1 τ x h ex ix (holds-empty _)) (λ A. relevant t τ >>= λ B. closed-cross A B) (c .before .before .before .before .before .before .an .given .1)
+          makes-then (a .1 τ x h ex ix (holds-empty _)) (λ A. relevant t τ >>= λ B. closed-cross A B) (at-an .an .given .1)
           (λ A p. stops-then (b .1 τ t h et it (holds-empty _)) (λ B. closed-cross A B) (c .enum-told .given .1)),
     )
 
 returns-3 : tie.Need-returns-3
 unfolding positive-joined
 returns-3 c =
-    let a = c .before .before .relevant .ensures in
-    (tt, λ τ x t h ex et ix it z. stops-then (a .1 τ x h ex ix (holds-empty _)) (λ A. relevant t τ >>= λ B. closed-cross A B) (c .enum-told2 .given .1))
+    let at-relevant = c .before .before in
+    let a = at-relevant .relevant .ensures in (
+      tt,
+      λ τ x t h ex et ix it z.
+          stops-then (a .1 τ x h ex ix (holds-empty _)) (λ A. relevant t τ >>= λ B. closed-cross A B) (c .enum-told2 .given .1),
+    )
 
 pub positive-joined-spec : {M : Type 1} → statement M
 positive-joined-spec =

@@ -13,16 +13,19 @@ cut-row-requires : tie.Need-cut-row-requires
 cut-row-requires c κs = search needs
 
 grow-each-requires : tie.Need-grow-each-requires
-grow-each-requires c κs = (omega arith, ones-le 32 _ (c .before .before .before .before .before .before .before .fits .keep .fits), omega arith)
+grow-each-requires c κs =
+    let start = c .before .before .before .before .before .before .before in
+    (omega arith, ones-le 32 _ (start .fits .keep .fits), omega arith)
 
 returns : tie.Need-returns
 unfolding projection positive-projection
 returns c =
+    let at-cut-row = c .before .before .before .before .before in
     let g = c .grow-each .ensures in (
       g .0,
       λ k τ h few is z.
           let e = ap ones is ∙ kept-ones k in
-          rw e at (g .1) [] _ z (c .before .before .before .before .before .cut-row .ensures .1 k τ h few is (holds-empty _)),
+          rw e at (g .1) [] _ z (at-cut-row .cut-row .ensures .1 k τ h few is (holds-empty _)),
     )
 
 pub positive-spec : {M : Type 1} → statement M

@@ -13,8 +13,9 @@ widen-each-requires c κs = search needs
 returns : tie.Need-returns
 unfolding grow-pieces
 returns c =
+    let at-piece-row = c .before .before .before .before .before in
     let g = c .widen-each .ensures in
-    (g .0, λ τ s h e is t d at. g .1 τ _ h (c .before .before .before .before .before .piece-row .ensures .1 s t e d is at (holds-empty _)))
+    (g .0, λ τ s h e is t d at. g .1 τ _ h (at-piece-row .piece-row .ensures .1 s t e d is at (holds-empty _)))
 
 pub piece-each-spec : {M : Type 1} → statement M
 piece-each-spec = tie.close (tie.spec piece-row-requires widen-each-requires returns)

@@ -71,8 +71,9 @@ loop-less c = search needs
 loop-again : tie.Need-loop-again Inv-loop μ-loop
 unfolding widen-grow
 loop-again c =
-    let lp = c .before .before .before .before .before .before .before .before .before .before .before .before .loop in
-    let g = c .before .before .before .grow in
+    let at-grow = c .before .before .before in
+    let lp = at-grow .before .before .before .before .before .before .before .before .before .loop in
+    let g = at-grow .grow in
     let is = c .before .c .given .1 in (
       omega arith,
       within-count (g .ensures .0) is,
@@ -80,7 +81,7 @@ loop-again c =
           let w = lp .inv .2 τ ρ h y in
           let s = getD ρ (lp .j) [] in
           let n = holds-length y (lp .j) (omega arith) in
-          let z = c .before .before .before .before .before .before .widen .ensures _ s (w .list) n (holds-at y (lp .j) (omega arith)) in
+          let z = at-grow .before .before .before .widen .ensures _ s (w .list) n (holds-at y (lp .j) (omega arith)) in
           let told = leaves-makes (g .ensures .1 _ _ (w .list) (widen-length _ s ∙ n) z) in
           toward-step _ widen-grow ρ [] _ w (omega (arith, y .count)) told is,
     )

@@ -21,7 +21,9 @@ returns c =
     (within-count (g .ensures .0) is, λ τ ρ h y. makes-leaves (g .ensures .1 τ ρ h y) is)
 
 returns-2 : tie.Need-returns-2
-returns-2 c = (tt, λ τ ρ h y. rw (makes-full (c .before .before .grow-each .ensures .1 τ ρ h y) (c .enum-told .given .1)) (refused refl refl))
+returns-2 c =
+    let at-grow-each = c .before .before in
+    (tt, λ τ ρ h y. rw (makes-full (at-grow-each .grow-each .ensures .1 τ ρ h y) (c .enum-told .given .1)) (refused refl refl))
 
 pub grow-all-spec : {M : Type 1} → statement M
 grow-all-spec = tie.close (tie.spec grow-each-requires enum-known-k enum-told returns returns-2)
