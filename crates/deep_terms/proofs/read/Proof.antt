@@ -43,8 +43,8 @@ loop-again c =
     let long = c .before .before .loop .inv .1 in (
       omega arith,
       ⊎-elim (λ v. rw (v .1, length-set) long)
-      (⊎-elim (λ v. rw (v .2, length-set) long) (λ v. rw (v .2) long))
-      (c .if1 .came),
+          (⊎-elim (λ v. rw (v .2, length-set) long) (λ v. rw (v .2) long))
+          (c .if1 .came),
     )
 
 array-write-ts-3 : tie.Need-array-write-ts-3 Inv-loop μ-loop

@@ -1,0 +1,186 @@
+-- `covered` meets its contract, by recursion: each piece has one position more fixed, so that its word `care` is greater. The
+-- loop's invariant is `Left`: all groups of the string are covered exactly if those of what is left of it are.
+use mathlib.Core.List.{[]}
+use mathlib.Core.Logic.{⊎-elim}
+use mathlib.Core.Path.{_≡_, sym, _∙_}
+use Prim.Native.Nat.{ℕ, _<_, _≤_, _-_, _^_}
+use native.Mathlib.Omega.{arith}
+use borrow.Author.Needs.{needs}
+use borrow.Author.Tests.{not-true, not-false}
+use borrow.Fn.Kinds.{In}
+use borrow.Fn.PlainCycle.{Measures, is, falls, and}
+use lib.ListN.{getD}
+use Rattle.tables.specs.Lists.{OfString}
+use Rattle.tables.proofs.Arrays.{holds-at, holds-length}
+use Rattle.covering.proofs.Pieces.{covered-none, Left, left-start, left-pass, left-fail, left-next, left-done, answer}
+use Rattle.covering.proofs.Splitting.{or-more, opposed-more}
+use Rattle.covering.proofs.covered.Reads as covered
+use Rattle.covering.proofs.covered.Kinds as covered-kinds
+use Rattle.covering.proofs.+covered.Lts-covered as covered-lts
+use Rattle.covering.proofs.agreed.Reads as agreed-reads
+use Rattle.covering.proofs.nearest.Reads as nearest-reads
+use Rattle.covering.proofs.splits.Reads as splits-reads
+use Rattle.words.proofs.is_zero.Reads as is-zero-reads
+use Rattle.words.proofs.opposed.Reads as opposed-reads
+use Rattle.covering.proofs.+covered.{statement}
+use Rattle.covering.proofs.+covered.Tie.{close}
+
+abbrev μ-covered : Measures 2 covered-kinds.ps ℕ
+μ-covered κs a = 2 ^ 32 - a .1 .1 .1 .1 .0 .care
+
+abbrev covered-at : ℕ → In 2 covered-kinds.ps
+covered-at t = and 2 covered-kinds.ps (is 2 covered-kinds.ps μ-covered t) covered.Pre
+
+abbrev covered-below : ℕ → In 2 covered-kinds.ps
+covered-below t = and 2 covered-kinds.ps (falls 2 covered-kinds.ps _<_ μ-covered t) covered.Pre
+
+-- what is known of the calls
+abbrev calls : ℕ → covered-lts.Claims
+calls t = (
+  nearest-reads.Asked,
+  nearest-reads.Learnt,
+  is-zero-reads.Asked,
+  is-zero-reads.Learnt,
+  splits-reads.Asked,
+  splits-reads.Learnt,
+  opposed-reads.Asked,
+  opposed-reads.Learnt,
+  covered-below t,
+  covered.Post,
+  agreed-reads.Asked,
+  agreed-reads.Learnt,
+)
+
+-- an entry was found
+found : {at n : ℕ} → at ≤ n → ¬ (at ≡ n) → at < n
+found h e = omega arith
+
+abbrev Inv-loop : covered-lts.InvT-loop
+Inv-loop care value n l at v z₀ i₀ z i =
+    (i ≤ l) × (z₀ .care ≤ z .care) × OfString l care value n z₀ (λ τ s. Left l i τ (getD τ at []) s z)
+
+abbrev μ-loop : covered-lts.MeasureT-loop
+μ-loop care value n l at v z₀ i₀ z i = l - i
+
+module _ (t : ℕ) where
+  nearest-requires : covered-lts.Need-nearest-requires (calls t) (covered-at t) covered.Post Inv-loop μ-loop
+  nearest-requires c κs = search needs
+
+  is-zero-requires : covered-lts.Need-is-zero-requires (calls t) (covered-at t) covered.Post Inv-loop μ-loop
+  is-zero-requires c κs = search needs
+
+  returns : covered-lts.Need-returns (calls t) (covered-at t) covered.Post Inv-loop μ-loop
+  returns c τ s h n e =
+      c .is-zero .ensures .1 s n e
+      ∙ covered-none _ τ s n
+      (c .before .before .nearest .ensures .1 _ τ s h n e .none (omega (arith, h .count, c .before .if1 .taken)))
+
+  mul-t12 : covered-lts.Need-mul-t12 (calls t) (covered-at t) covered.Post Inv-loop μ-loop
+  mul-t12 c = search needs
+
+  element-copy-out-t15 : covered-lts.Need-element-copy-out-t15 (calls t) (covered-at t) covered.Post Inv-loop μ-loop
+  element-copy-out-t15 c = search needs
+
+  mul-t16 : covered-lts.Need-mul-t16 (calls t) (covered-at t) covered.Post Inv-loop μ-loop
+  mul-t16 c = search needs
+
+  element-copy-out-t19 : covered-lts.Need-element-copy-out-t19 (calls t) (covered-at t) covered.Post Inv-loop μ-loop
+  element-copy-out-t19 c = search needs
+
+  loop-holds : covered-lts.Need-loop-holds (calls t) (covered-at t) covered.Post Inv-loop μ-loop
+  loop-holds c = (
+    search needs,
+    search needs,
+    λ τ s h n e.
+        let nearest = c .before .before .before .nearest in
+        let near = found (nearest .ensures .0) (c .before .before .if1 .left) in
+        left-start _ τ _ s _ n e (nearest .ensures .1 _ τ s h n e .found (omega (arith, near, h .count))),
+  )
+
+  splits-requires : covered-lts.Need-splits-requires (calls t) (covered-at t) covered.Post Inv-loop μ-loop
+  splits-requires c κs = search needs
+
+  opposed-requires : covered-lts.Need-opposed-requires (calls t) (covered-at t) covered.Post Inv-loop μ-loop
+  opposed-requires c κs = search needs
+
+  covered-requires : covered-lts.Need-covered-requires (calls t) (covered-at t) covered.Post Inv-loop μ-loop
+  covered-requires c κs =
+      let at-loop = c .before .before .before .before in
+      let start = at-loop .before .before .before .before .before in
+      let clear = c .before .before .splits .ensures .0 (c .before .if2 .taken) in
+      let more = opposed-more (at-loop .loop .i) (at-loop .loop .z) _ _ clear (c .opposed .ensures .0) in
+      (omega (arith, more, c .opposed .ok, start .pre .0, at-loop .loop .inv .1), search needs)
+
+  returns-2 : covered-lts.Need-returns-2 (calls t) (covered-at t) covered.Post Inv-loop μ-loop
+  returns-2 c τ s h n e =
+      let at-split = c .before .before .before in
+      let at-loop = at-split .before .before .before in
+      let start = at-loop .before .before .before .before in
+      let l = start .before .args .l in
+      let i = at-loop .loop .i in
+      let near = found (start .nearest .ensures .0) (at-loop .before .before .before .if1 .left) in
+      let a = at-loop .loop .inv .2 τ s h n e in
+      let long = holds-length h _ near in
+      let v = holds-at h _ near in
+      let split = sym (at-split .before .splits .ensures .1 (a .rest) _ (a .is) v) ∙ at-split .if2 .taken in
+      left-fail l i τ _ s _ a long split
+      (answer l i τ _ s _ a long split _ _
+      (λ k. c .before .before .opposed .ensures .1 (a .rest) _ k (a .is) v) (λ u. c .before .covered .ensures τ u h)
+      ∙ not-true _ (c .if3 .taken))
+
+  agreed-requires : covered-lts.Need-agreed-requires (calls t) (covered-at t) covered.Post Inv-loop μ-loop
+  agreed-requires c κs = search needs
+
+  add-i : covered-lts.Need-add-i (calls t) (covered-at t) covered.Post Inv-loop μ-loop
+  add-i c = search needs
+
+  loop-less : covered-lts.Need-loop-less (calls t) (covered-at t) covered.Post Inv-loop μ-loop
+  loop-less c = search needs
+
+  loop-again : covered-lts.Need-loop-again (calls t) (covered-at t) covered.Post Inv-loop μ-loop
+  loop-again c =
+      let at-loop = c .before .before .before in
+      let start = at-loop .before .before .before .before in
+      let l = start .before .args .l in
+      let i = at-loop .loop .i in
+      let splits = c .before .splits in
+      let near = found (start .nearest .ensures .0) (at-loop .before .before .before .if1 .left) in
+      ⊎-elim
+      (λ p. (
+        search needs,
+        (let more = or-more (at-loop .loop .z .care) i (splits .ensures .0 (p .0 .taken)) in rw (p .5)
+            (omega (arith, more, p .4 .ensures .0, at-loop .loop .inv .1))),
+        λ τ s h n e.
+            let a = at-loop .loop .inv .2 τ s h n e in
+            let long = holds-length h _ near in
+            let v = holds-at h _ near in
+            let split = sym (splits .ensures .1 (a .rest) _ (a .is) v) ∙ p .0 .taken in
+            rw (p .5)
+            (left-next l i τ _ s _ a long split _ (λ k. p .4 .ensures .1 (a .rest) _ k (a .is) v)
+            (answer l i τ _ s _ a long split _ _ (λ k. p .1 .ensures .1 (a .rest) _ k (a .is) v)
+            (λ u. p .2 .ensures τ u h) ∙ not-false _ (p .3 .left))),
+      ))
+      (λ p. (
+        search needs,
+        rw (p .1) (at-loop .loop .inv .1),
+        λ τ s h n e.
+            let a = at-loop .loop .inv .2 τ s h n e in
+            rw (p .1)
+            (left-pass l i τ _ s _ a (sym (splits .ensures .1 (a .rest) _ (a .is) (holds-at h _ near)) ∙ p .0 .left)),
+      ))
+      (c .if2 .came)
+
+  returns-3 : covered-lts.Need-returns-3 (calls t) (covered-at t) covered.Post Inv-loop μ-loop
+  returns-3 c τ s h n e =
+      let at-loop = c .before in
+      let start = at-loop .before .before .before .before in
+      let near = found (start .nearest .ensures .0) (at-loop .before .before .before .if1 .left) in
+      let end : at-loop .loop .i ≡ start .before .args .l = omega arith in
+      left-done _ _ τ s _ (omega (arith, near, h .count)) (holds-length h _ near) (rw end at (at-loop .loop .inv .2 τ s h n e))
+
+pub +covered-spec : {M : Type 1} → statement M
++covered-spec =
+    close μ-covered λ t. covered-lts.spec (calls t) (covered-at t) covered.Post Inv-loop μ-loop
+    (nearest-requires t) (is-zero-requires t) (returns t) (mul-t12 t) (element-copy-out-t15 t) (mul-t16 t)
+    (element-copy-out-t19 t) (loop-holds t) (splits-requires t) (opposed-requires t) (covered-requires t) (returns-2 t)
+    (agreed-requires t) (add-i t) (loop-less t) (loop-again t) (returns-3 t)

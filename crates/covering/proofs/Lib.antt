@@ -1,0 +1,6 @@
+pub mod Every
+pub mod Splitting
+pub mod Pieces
+pub mod Inclusion
+pub mod Firsts
+pub mod Meeting
