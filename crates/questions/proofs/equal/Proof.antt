@@ -1,0 +1,70 @@
+use mathlib.Core.Path.{sym, _∙_}
+use borrow.Author.Tests.{eq-eqb, ne-eqb}
+use Rattle.questions.specs.Replies.{after-check, equal-call}
+use borrow.Author.Needs.{needs}
+use Rattle.questions.proofs.equal.Statement.{statement}
+use Rattle.questions.proofs.equal.Tie as tie
+
+check-requires : tie.Need-check-requires
+check-requires c κs = search needs
+
+enum-known-r : tie.Need-enum-known-r
+enum-known-r c = search needs
+
+enum-told : tie.Need-enum-told
+enum-told c = search needs
+
+check-requires-2 : tie.Need-check-requires-2
+check-requires-2 c κs = search needs
+
+enum-known-r-2 : tie.Need-enum-known-r-2
+enum-known-r-2 c = search needs
+
+enum-told-2 : tie.Need-enum-told-2
+enum-told-2 c = search needs
+
+same-groups-requires : tie.Need-same-groups-requires
+same-groups-requires c κs =
+    (
+      c .before .before .before .before .before .before .before .before .check .ensures .1 .0 (c .before .before .before .before .before .before .enum-told .given .1),
+      c .before .before .before .before .before .check2 .ensures .1 .0 (c .before .before .before .enum-told2 .given .1),
+      sym (c .if1 .taken),
+    )
+
+replied-requires : tie.Need-replied-requires
+replied-requires c κs = search needs
+
+returns : tie.Need-returns
+unfolding equal-call after-check
+returns c = rw (sym (c .before .before .before .check .ensures .0) ∙ c .before .r .given .1)
+
+returns-2 : tie.Need-returns-2
+unfolding equal-call after-check
+returns-2 c = rw (sym (c .before .before .before .before .before .before .check .ensures .0) ∙ c .before .before .before .before .enum-told .given .1, sym (c .before .before .before .check2 .ensures .0) ∙ c .before .r2 .given .1)
+
+returns-3 : tie.Need-returns-3
+unfolding equal-call after-check
+returns-3 c =
+    rw (
+      c .replied .ensures,
+      c .before .same-groups .ensures,
+      sym (c .before .before .before .before .before .before .before .before .before .before .check .ensures .0) ∙ c .before .before .before .before .before .before .before .before .enum-told .given .1,
+      sym (c .before .before .before .before .before .before .before .check2 .ensures .0) ∙ c .before .before .before .before .before .enum-told2 .given .1,
+      eq-eqb _ _ (c .before .before .if1 .taken),
+    )
+
+returns-4 : tie.Need-returns-4
+unfolding equal-call after-check
+returns-4 c =
+    rw (
+      sym (c .before .before .before .before .before .before .before .before .check .ensures .0) ∙ c .before .before .before .before .before .before .enum-told .given .1,
+      sym (c .before .before .before .before .before .check2 .ensures .0) ∙ c .before .before .before .enum-told2 .given .1,
+      ne-eqb _ _ (c .if1 .left),
+    )
+
+pub equal-spec : {M : Type 1} → statement M
+equal-spec =
+    tie.close
+    (tie.spec
+    check-requires enum-known-r enum-told check-requires-2 enum-known-r-2 enum-told-2 same-groups-requires
+    replied-requires returns returns-2 returns-3 returns-4)

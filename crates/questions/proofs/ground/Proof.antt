@@ -1,0 +1,41 @@
+use mathlib.Core.Path.{sym, _∙_}
+use Rattle.questions.specs.Replies.{after-check, ground-call}
+use Rattle.questions.proofs.Asking.{named-range}
+use borrow.Author.Needs.{needs}
+use Rattle.questions.proofs.ground.Statement.{statement}
+use Rattle.questions.proofs.ground.Tie as tie
+
+check-requires : tie.Need-check-requires
+check-requires c κs = search needs
+
+enum-known-r : tie.Need-enum-known-r
+enum-known-r c = search needs
+
+enum-told : tie.Need-enum-told
+enum-told c = search needs
+
+without-requires : tie.Need-without-requires
+without-requires c κs =
+    let r = named-range _ _ (c .if1 .taken) in
+    (c .before .before .before .before .check .ensures .1 .0 (c .before .before .enum-told .given .1), r .0, r .1)
+
+replied-requires : tie.Need-replied-requires
+replied-requires c κs = search needs
+
+returns : tie.Need-returns
+unfolding ground-call after-check
+returns c = rw (sym (c .before .before .before .check .ensures .0) ∙ c .before .r .given .1)
+
+returns-2 : tie.Need-returns-2
+unfolding ground-call after-check
+returns-2 c = rw (c .replied .ensures, c .before .without .ensures, sym (c .before .before .before .before .before .before .check .ensures .0) ∙ c .before .before .before .before .enum-told .given .1, c .before .before .if1 .taken)
+
+returns-3 : tie.Need-returns-3
+unfolding ground-call after-check
+returns-3 c = rw (sym (c .before .before .before .before .check .ensures .0) ∙ c .before .before .enum-told .given .1, c .if1 .left)
+
+pub ground-spec : {M : Type 1} → statement M
+ground-spec =
+    tie.close
+    (tie.spec
+    check-requires enum-known-r enum-told without-requires replied-requires returns returns-2 returns-3)

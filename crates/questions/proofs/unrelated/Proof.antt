@@ -1,0 +1,39 @@
+use mathlib.Core.Path.{sym}
+use Rattle.words.proofs.Codec.{set-length, set-word-set}
+use Rattle.tables.proofs.Checking.{good-holds}
+use Rattle.sharing.proofs.Answers.{good-few, good-wide}
+use borrow.Author.Needs.{needs}
+use Rattle.questions.proofs.unrelated.Statement.{statement}
+use Rattle.questions.proofs.unrelated.Tie as tie
+
+enum-told : tie.Need-enum-told
+enum-told c = search needs
+
+independent-positive-requires : tie.Need-independent-positive-requires
+independent-positive-requires c κs = good-few (c .before .before .before .before .before .before .pre .0)
+
+enum-told-2 : tie.Need-enum-told-2
+enum-told-2 c = search needs
+
+independent-negative-requires : tie.Need-independent-negative-requires
+independent-negative-requires c κs =
+    let g = c .before .before .before .before .before .before .pre in
+    (good-few (g .0), good-wide (g .0))
+
+returns : tie.Need-returns
+returns c =
+    let g = c .before .before .before .before .before .before .before .pre in
+    rw (c .before .before .before .enum-told .given .1)
+    (c .independent-positive .ensures _ _ _ _ (good-holds (g .0)) (set-length _ _) (set-length _ _) (sym (set-word-set _ _ (g .1))) (sym (set-word-set _ _ (g .2))))
+
+returns-2 : tie.Need-returns-2
+returns-2 c =
+    let g = c .before .before .before .before .before .before .before .pre in
+    rw (c .before .before .before .enum-told2 .given .1)
+    (c .independent-negative .ensures _ _ _ (good-holds (g .0)) (set-length _ _) (set-length _ _) (sym (set-word-set _ _ (g .1))) (sym (set-word-set _ _ (g .2))))
+
+pub unrelated-spec : {M : Type 1} → statement M
+unrelated-spec =
+    tie.close
+    (tie.spec
+    enum-told independent-positive-requires enum-told-2 independent-negative-requires returns returns-2)

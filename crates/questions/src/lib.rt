@@ -1,0 +1,129 @@
+// The three questions on table values: equal, ground, independent. None grows a list, so none meets 8.
+use sharing::Side;
+use tables::Answer;
+use tables::Refusal;
+use tables::Table;
+ghost use mathlib.Core.Path.{_≡_};
+ghost use Prim.Native.Nat.{_≤_, _<_, _^_};
+ghost use Rattle.model.specs.Tables.{positive};
+ghost use Rattle.model.specs.Questions.{equal as equal-lists, ground as ground-list, independent as independent-list};
+ghost use Rattle.words.specs.Words.{set};
+ghost use Rattle.tables.specs.Values.{GoodTable, entries-of};
+ghost use Rattle.sharing.specs.Calls.{side-of};
+ghost use Rattle.questions.specs.Replies.{replies, equal-call, ground-call, independent-call};
+
+// What a question is answered.
+pub enum Reply {
+    Yes,
+    No,
+    Refused(Refusal),
+}
+
+// An answer as a reply.
+fn replied(yes: bool) -> Reply
+    ensures { λ r. ⌜ r ≡ replies yes ⌝ }
+{
+    if yes {
+        return Reply::Yes;
+    }
+    Reply::No
+}
+
+// Do two good tables of one width and one side, whichever it is, stand for the same groups?
+fn same_groups(t: Table, u: Table) -> bool
+    requires { ⌜ GoodTable t × GoodTable u × (u .l ≡ t .l) ⌝ }
+    ensures { λ r. ⌜ r ≡ equal-lists positive (t .l) (entries-of t) (entries-of u) ⌝ }
+{
+    let l = t.l;
+    let an = t.n;
+    let acare = t.care;
+    let avalue = t.value;
+    let bn = u.n;
+    let bcare = u.care;
+    let bvalue = u.value;
+    covering::equal(&acare, &avalue, an, &bcare, &bvalue, bn, l)
+}
+
+// Are two tables of one side equal in groups? The answer is the same for both sides.
+pub fn equal(t: Table, u: Table) -> Reply
+    ensures { λ r. ⌜ r ≡ equal-call t u ⌝ }
+{
+    match tables::check(t) {
+        Answer::Refused(r) => Reply::Refused(r),
+        Answer::Accepted => match tables::check(u) {
+            Answer::Refused(r) => Reply::Refused(r),
+            Answer::Accepted => {
+                if t.l == u.l {
+                    replied(same_groups(t, u))
+                } else {
+                    Reply::Refused(Refusal::Unlike)
+                }
+            }
+        },
+    }
+}
+
+// Has no group of a good table the variable Xx?
+fn without(side: Side, t: Table, x: u32) -> bool
+    requires { ⌜ GoodTable t × (1 ≤ x) × (x ≤ t .l) ⌝ }
+    ensures { λ r. ⌜ r ≡ ground-list (side-of side) (t .l) (entries-of t) x ⌝ }
+{
+    let l = t.l;
+    let n = t.n;
+    let care = t.care;
+    let value = t.value;
+    match side {
+        Side::Positive => covering::ground_positive(&care, &value, n, x),
+        Side::Negative => covering::ground_negative(&care, &value, n, l, x),
+    }
+}
+
+// Is the variable Xx ground: has no group it?
+pub fn ground(side: Side, t: Table, x: u32) -> Reply
+    ensures { λ r. ⌜ r ≡ ground-call (side-of side) t x ⌝ }
+{
+    match tables::check(t) {
+        Answer::Refused(r) => Reply::Refused(r),
+        Answer::Accepted => {
+            if (0 < x) & (x <= t.l) {
+                replied(without(side, t, x))
+            } else {
+                Reply::Refused(Refusal::Name)
+            }
+        }
+    }
+}
+
+// Does no group of a good table meet both sets?
+fn unrelated(side: Side, t: Table, a: u32, b: u32) -> bool
+    requires { ⌜ GoodTable t × (a < 2 ^ (t .l)) × (b < 2 ^ (t .l)) ⌝ }
+    ensures { λ r. ⌜
+        r ≡ independent-list (side-of side) (t .l) (entries-of t) (set (t .l) a) (set (t .l) b)
+        ⌝ }
+{
+    let l = t.l;
+    let n = t.n;
+    let care = t.care;
+    let value = t.value;
+    match side {
+        Side::Positive => covering::independent_positive(&care, &value, n, a, b),
+        Side::Negative => covering::independent_negative(&care, &value, n, l, a, b),
+    }
+}
+
+// Are two sets of variables, bit i - 1 for Xi, independent: does no group meet both?
+pub fn independent(side: Side, t: Table, a: u32, b: u32) -> Reply
+    ensures { λ r. ⌜ r ≡ independent-call (side-of side) t a b ⌝ }
+{
+    match tables::check(t) {
+        Answer::Refused(r) => Reply::Refused(r),
+        Answer::Accepted => {
+            let full = words::full(t.l);
+            if (a <= full) & (b <= full) {
+                replied(unrelated(side, t, a, b))
+            } else {
+                Reply::Refused(Refusal::Name)
+            }
+        }
+    }
+}
