@@ -1,1 +1,3 @@
 pub mod Asking
+pub mod Exact
+pub mod Laws

@@ -24,12 +24,11 @@ enum-told-2 : tie.Need-enum-told-2
 enum-told-2 c = search needs
 
 same-groups-requires : tie.Need-same-groups-requires
-same-groups-requires c κs =
-    (
-      c .before .before .before .before .before .before .before .before .check .ensures .1 .0 (c .before .before .before .before .before .before .enum-told .given .1),
-      c .before .before .before .before .before .check2 .ensures .1 .0 (c .before .before .before .enum-told2 .given .1),
-      sym (c .if1 .taken),
-    )
+same-groups-requires c κs = (
+  c .before .before .before .before .before .before .before .before .check .ensures .1 .0 (c .before .before .before .before .before .before .enum-told .given .1),
+  c .before .before .before .before .before .check2 .ensures .1 .0 (c .before .before .before .enum-told2 .given .1),
+  sym (c .if1 .taken),
+)
 
 replied-requires : tie.Need-replied-requires
 replied-requires c κs = search needs

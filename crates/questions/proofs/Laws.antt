@@ -1,0 +1,54 @@
+-- Laws of the questions that users lean on, as statements over groups. Assumes nothing.
+use mathlib.Core.Path.{_≡_}
+use mathlib.Core.Logic.{⊎-elim}
+use Prim.Native.Nat.{ℕ}
+use lib.Dec.{T}
+use lib.ListN.{length}
+use Rattle.model.specs.Groups.{Bits, Groups, Ors, one, more, has, or, AOrB, Those, meets}
+use Rattle.model.specs.Terms.{Term, var, occurs, variables}
+use Rattle.model.specs.Equations.{Equation, After, WithVariable, WithSome}
+use Rattle.model.specs.Questions.{Equal, Ground, Independent}
+use Rattle.model.proofs.Variables.{meets-variable}
+
+-- ---- Equal is an equivalence, and equal tables give the same answers
+
+pub equal-self : (S : Groups) → Equal S S
+equal-self S g = (λ h. h, λ h. h)
+
+pub equal-back : (S R : Groups) → Equal S R → Equal R S
+equal-back S R e g = (e g .1, e g .0)
+
+pub equal-chain : (S R Q : Groups) → Equal S R → Equal R Q → Equal S Q
+equal-chain S R Q e f g = (λ h. f g .0 (e g .0 h), λ h. e g .1 (f g .1 h))
+
+pub equal-ground : (S R : Groups) (x : ℕ) → Equal S R → Ground S x → Ground R x
+equal-ground S R x e f g h = f g (e g .1 h)
+
+pub equal-independent : (S R : Groups) (a b : Bits) → Equal S R → Independent S a b → Independent R a b
+equal-independent S R a b e f g h = f g (e g .1 h)
+
+-- ---- After x = t with t ground, x is ground
+
+-- no "a or b" where no group has a variable of t
+none-joined : (S X Y : Groups) → ((g : Bits) → S g → ¬ (Y g)) → (g : Bits) → ¬ (Ors (AOrB (Those S X) (Those S Y)) g)
+none-joined S X Y f g (one p) = f (p .b) (p .in-b .0) (p .in-b .1)
+none-joined S X Y f g (more p q) = f (p .b) (p .in-b .0) (p .in-b .1)
+
+-- where every variable of t is ground, x is ground after x = t
+pub ground-after : (S : Groups) (e : Equation) → ((y : ℕ) → T (occurs y (e .right)) → Ground S y)
+    → Ground (After e S) (e .left)
+ground-after S e f g h x =
+    ⊎-elim (λ k. k .1 x)
+    (none-joined S (WithVariable (e .left)) (WithSome (e .right)) (λ k s w. f (w .0) (w .1) k s (w .2)) g) h
+
+-- ---- {x} and {y} are independent exactly when no group has both
+
+pub independent-pair : (l : ℕ) (S : Groups) → ((g : Bits) → S g → length g ≡ l) → (x y : ℕ)
+    → Independent S (variables l (var x)) (variables l (var y)) → (g : Bits) → S g → ¬ (T (has g x) × T (has g y))
+independent-pair l S long x y f g s h =
+    f g s (meets-variable l x g (long g s) .1 (h .0), meets-variable l y g (long g s) .1 (h .1))
+
+pub pair-independent : (l : ℕ) (S : Groups) → ((g : Bits) → S g → length g ≡ l) → (x y : ℕ)
+    → ((g : Bits) → S g → ¬ (T (has g x) × T (has g y))) → Independent S (variables l (var x)) (variables l (var y))
+pair-independent l S long x y f g s h =
+    f g s (meets-variable l x g (long g s) .0 (h .0), meets-variable l y g (long g s) .0 (h .1))
