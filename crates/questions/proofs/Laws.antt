@@ -4,8 +4,8 @@ use mathlib.Core.Logic.{⊎-elim}
 use Prim.Native.Nat.{ℕ}
 use lib.Dec.{T}
 use lib.ListN.{length}
-use Rattle.model.specs.Groups.{Bits, Groups, Ors, one, more, has, or, AOrB, Those, meets}
-use Rattle.model.specs.Terms.{Term, var, occurs, variables}
+use Rattle.model.specs.Groups.{Bits, Groups, Ors, one, more, has, or, AOrB, Those}
+use Rattle.model.specs.Terms.{var, occurs, variables}
 use Rattle.model.specs.Equations.{Equation, After, WithVariable, WithSome}
 use Rattle.model.specs.Questions.{Equal, Ground, Independent}
 use Rattle.model.proofs.Variables.{meets-variable}

@@ -1,10 +1,9 @@
--- The check of a table value: its scans, and that an accepted value holds its own list. Assumes nothing.
+-- The check of a table value: its tests, and that an accepted value holds its own list. Assumes nothing.
 use mathlib.Core.Path.{_≡_, refl, sym, ap, ap₂, _∙_, subst}
-use mathlib.Core.Bool.{Bool, true, false, _&&_, cond, and-assoc, and-true}
+use mathlib.Core.Bool.{Bool, true, false, _&&_, cond}
 use mathlib.Core.List.{List, [], _∷_, _++_, map}
 use Prim.Native.Nat.{ℕ, zero, suc, _+_, _-_, _^_, _≤_, _<_}
 use native.Mathlib.Nat.{not-suc-le-zero, le-of-suc-le-suc, zero-add, add-zero, suc-add}
-use native.Mathlib.Numerals.{add-one}
 use native.Mathlib.Omega.{arith}
 use borrow.Author.Tests.{eq-eqb, eqb-true, ltb-true, lt-ltb, le-leb, leb-true}
 use lib.Bits.{bitAnd, and-le-r}
@@ -28,28 +27,7 @@ use Rattle.tables.proofs.Arrays.{arrays-at, holds-at, holds-length}
 use Rattle.tables.proofs.Values.{holds-good}
 use Rattle.tables.proofs.Converting.{below-full, both-true}
 
--- ---- A scan of the indexes below k
-
-pub scan-whole : (p : ℕ → Bool) (i n k : ℕ) → k ≡ i + n → all-from i n p ≡ all-from i (k - i) p
-scan-whole p i n k e = ap (λ (m : ℕ). all-from i m p) (let z : n ≡ k - i = omega (arith, e) in z)
-
-pub scan-start : (p : ℕ → Bool) (k : ℕ) → all-from 0 k p ≡ all-from 0 (k - 0) p
-scan-start p k = scan-whole p 0 k k (omega arith)
-
-module _ (p : ℕ → Bool) (all : Bool) where
-  pub scan-turn : (good : Bool) (i k : ℕ) → i < k → all ≡ (good && all-from i (k - i) p)
-      → (hit : Bool) → hit ≡ p i → all ≡ ((good && hit) && all-from (i + 1) (k - (i + 1)) p)
-  unfolding all-from
-  scan-turn good i k lt so-far hit e =
-      so-far
-      ∙ ap (λ (m : ℕ). good && all-from i m p) (let s : k - i ≡ suc (k - (i + 1)) = omega arith in s)
-      ∙ sym (and-assoc good (p i) (all-from (suc i) (k - (i + 1)) p))
-      ∙ rw (e, add-one)
-
-  pub scan-end : (good : Bool) (i k : ℕ) → k ≤ i → all ≡ (good && all-from i (k - i) p) → good ≡ all
-  unfolding all-from
-  scan-end good i k h so-far =
-      sym (so-far ∙ ap (λ (m : ℕ). good && all-from i m p) (let z : k - i ≡ 0 = omega arith in z) ∙ and-true good)
+-- ---- A test of all indexes
 
 pub all-at : (p : ℕ → Bool) (i n : ℕ) → all-from i n p ≡ true → (m : ℕ) → m < n → p (i + m) ≡ true
 unfolding all-from

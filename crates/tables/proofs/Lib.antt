@@ -5,6 +5,8 @@ pub mod Values
 pub mod Widening
 pub mod Toward
 pub mod Converting
+pub mod Scans
 pub mod Checking
 pub mod Idle
 pub mod Passing
+pub mod Keyed

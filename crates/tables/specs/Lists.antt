@@ -3,14 +3,14 @@ use mathlib.Core.Path.{_≡_}
 use mathlib.Core.Bool.{Bool, true, false, _||_}
 use mathlib.Core.List.{List, [], _∷_, _++_, map}
 use mathlib.Core.Option.{Option, some, none}
-use Prim.Native.Nat.{ℕ, _-_, _≤_, _<_}
+use Prim.Native.Nat.{ℕ, zero, suc, _-_, _≤_, _<_}
 use lib.ListN.{length, getD, take, replicate}
 use Rattle.model.specs.Groups.{Bits, or}
 use Rattle.model.specs.Strings.{Trits, all-zero}
 use Rattle.model.specs.Growth.{Entries, limit, subsumed}
 use Rattle.model.specs.Tables.{Good}
 use Rattle.words.specs.declared.Entry.{Entry}
-use Rattle.words.specs.Words.{word, string, openings, subsumes-words}
+use Rattle.words.specs.Words.{word, string, openings, subsumes-words, key-of}
 use Rattle.tables.specs.declared.lists.Grown.{Grown}
 use Rattle.tables.specs.declared.lists.Grown.the-variants.{Count, Full}
 
@@ -51,6 +51,19 @@ strings l care value n = map (string l) (take n (pairs care value))
 unfoldable pub any : (Trits → Bool) → Entries → Bool
 any p [] = false
 any p (s ∷ τ) = p s || any p τ
+
+-- The test holds of one of the n indexes from i on.
+unfoldable pub some-from : ℕ → ℕ → (ℕ → Bool) → Bool
+some-from i zero p = false
+some-from i (suc n) p = p i || some-from (suc i) n p
+
+-- The first words of an array are the keys of τ.
+abbrev pub Keys : List ℕ → Entries → Type 0
+Keys keys τ = (i : ℕ) → i < length τ → getD keys i 0 ≡ key-of (getD τ i [])
+
+-- The same where the strings have at most 16 positions; longer strings have no keys.
+abbrev pub KeysTo : ℕ → List ℕ → Entries → Type 0
+KeysTo l keys τ = l ≤ 16 → Keys keys τ
 
 -- The positions of y that some entry opens: those fixed positions at which y with that value flipped is subsumed by one entry.
 unfoldable pub open-set : Entries → Trits → Bits

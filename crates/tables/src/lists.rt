@@ -5,16 +5,17 @@ use words::Entry;
 ghost use mathlib.Core.Path.{_≡_};
 ghost use mathlib.Core.Bool.{true, cond};
 ghost use mathlib.Core.List.{[], map};
+ghost use mathlib.Core.Option.{some};
 ghost use Prim.Native.Nat.{ℕ, _+_, _≤_};
 ghost use lib.Dec.{ltb};
-ghost use lib.ListN.{length};
+ghost use lib.ListN.{length, getD};
 ghost use Rattle.model.specs.Groups.{Bits};
 ghost use Rattle.model.specs.Strings.{subsumes};
 ghost use Rattle.model.specs.Growth.{Entries, subsumed as subsumed-list, remove, grow as grow-list};
 ghost use Rattle.model.specs.Growth.{widen as widen-list, grow-all as grow-all-list};
 ghost use Rattle.model.specs.Growth.{convert-one as convert-one-list, convert as convert-list};
-ghost use Rattle.words.specs.Words.{word, set, set-word, subsumes-words};
-ghost use Rattle.tables.specs.Lists.{Holds, OfString, any, open-set, Passes, Within, Makes, Leaves};
+ghost use Rattle.words.specs.Words.{word, set, set-word, subsumes-words, within};
+ghost use Rattle.tables.specs.Lists.{Holds, OfString, any, some-from, open-set, Passes, Keys, KeysTo, Within, Makes, Leaves};
 ghost use Rattle.tables.specs.Values.{entry-at, all-from, all-clean, zero-past, all-below as all-below-list};
 
 // The new count of a list, or that it needs entry 257.
@@ -74,7 +75,8 @@ fn removes(care: &[u32; 256], value: &[u32; 256], n: usize, y: Entry) -> bool
 // Keeps, in order, the entries that y does not subsume; the rest becomes zero. The number kept.
 fn pack(care: &mut [u32; 256], value: &mut [u32; 256], n: usize, y: Entry) -> usize
     requires { ⌜ n ≤ 256 ⌝ }
-    ensures { λ r. ⌜
+    ensures within { λ r. ⌜ r ≤ n ⌝ }
+    ensures list { λ r. ⌜
         ((l : ℕ) → OfString l (now (care .entry)) (now (value .entry)) n y
         (λ τ s. Holds l (now (care .exit)) (now (value .exit)) r (remove s τ)))
         ⌝ }
@@ -237,6 +239,117 @@ fn pass(ycare: &[u32; 256], yvalue: &[u32; 256], j: usize, m: usize, a: Entry) -
     k
 }
 
+// Is a key among the first n within y?
+fn key_subsumed(keys: &[u32; 256], n: usize, y: u32) -> bool
+    requires { ⌜ n ≤ 256 ⌝ }
+    ensures { λ r. ⌜ r ≡ some-from 0 n (λ i. within (getD (now (keys .entry)) i 0) y) ⌝ }
+{
+    let mut found = false;
+    let mut i = 0;
+    while i < n {
+        let k = keys[i];
+        found = found | ((k & y) == k);
+        i += 1;
+    }
+    found
+}
+
+// Is y within a key among the first n?
+fn key_removes(keys: &[u32; 256], n: usize, y: u32) -> bool
+    requires { ⌜ n ≤ 256 ⌝ }
+    ensures { λ r. ⌜ r ≡ some-from 0 n (λ i. within y (getD (now (keys .entry)) i 0)) ⌝ }
+{
+    let mut found = false;
+    let mut i = 0;
+    while i < n {
+        let k = keys[i];
+        found = found | ((y & k) == y);
+        i += 1;
+    }
+    found
+}
+
+// Writes the keys of a list of strings of at most 16 positions.
+fn write_keys(care: &[u32; 256], value: &[u32; 256], n: usize, keys: &mut [u32; 256])
+    requires { ⌜ n ≤ 256 ⌝ }
+    ensures { λ _. ⌜
+        ((l : ℕ) (τ : Entries) → l ≤ 16 → Holds l (now (care .entry)) (now (value .entry)) n τ → Keys (now (keys .exit)) τ)
+        ⌝ }
+{
+    // As a slice its length is known.
+    let whole: &[u32] = &*keys;
+    let mut i = 0;
+    while i < n {
+        keys[i] = words::key(Entry {
+            care: care[i],
+            value: value[i],
+        });
+        i += 1;
+    }
+}
+
+// The same as `compact`, by the keys, which are written anew where something is removed.
+fn compact_keyed(
+    care: &mut [u32; 256],
+    value: &mut [u32; 256],
+    keys: &mut [u32; 256],
+    n: usize,
+    y: Entry,
+) -> usize
+    requires { ⌜ n ≤ 256 ⌝ }
+    ensures { λ r. ⌜
+        ((l : ℕ) → l ≤ 16 → OfString l (now (care .entry)) (now (value .entry)) n y (λ τ s. Keys (now (keys .entry)) τ
+        → Holds l (now (care .exit)) (now (value .exit)) r (remove s τ) × Keys (now (keys .exit)) (remove s τ)))
+        ⌝ }
+{
+    if key_removes(keys, n, words::key(y)) {
+        let k = pack(care, value, n, y);
+        write_keys(care, value, k, keys);
+        return k;
+    }
+    n
+}
+
+// Grows the list by x, a string of l positions. With at most 16 positions the scans go over the keys of the entries.
+fn grow_keyed(
+    care: &mut [u32; 256],
+    value: &mut [u32; 256],
+    keys: &mut [u32; 256],
+    n: usize,
+    l: u32,
+    x: Entry,
+) -> Grown
+    requires { ⌜ (n ≤ 256) × (l ≤ 32) ⌝ }
+    ensures within { λ r. ⌜ Within r ⌝ }
+    ensures list { λ r. ⌜
+        OfString l (now (care .entry)) (now (value .entry)) n x (λ τ s. KeysTo l (now (keys .entry)) τ
+        → Makes l (now (care .exit)) (now (value .exit)) r (grow-list τ s)
+        × ((ρ : Entries) → grow-list τ s ≡ some ρ → KeysTo l (now (keys .exit)) ρ))
+        ⌝ }
+{
+    if 16 < l {
+        return grow(care, value, n, l, x);
+    }
+    if words::is_zero(l, x) {
+        return Grown::Count(n);
+    }
+    let key = words::key(x);
+    if key_subsumed(keys, n, key) {
+        return Grown::Count(n);
+    }
+    let kept = compact_keyed(care, value, keys, n, x);
+    if kept < Table::ENTRIES {
+        // As a slice its length is known.
+        let whole: &[u32] = &*keys;
+        care[kept] = x.care;
+        value[kept] = x.value;
+        keys[kept] = key;
+        Grown::Count(kept + 1)
+    } else {
+        Grown::Full
+    }
+}
+
 // Grows the list by each of the m entries of another list, in order, up to the first that is full. `idle` is a string by
 // which growing changes nothing; nor does it by a string that `idle` subsumes, which spares its passes.
 pub fn grow_each(
@@ -256,6 +369,8 @@ pub fn grow_each(
         → Makes l (now (care .exit)) (now (value .exit)) r (grow-all-list τ ρ))
         ⌝ }
 {
+    let mut keys = [0u32; 256];
+    write_keys(care, value, n, &mut keys);
     let mut k = n;
     let mut idle = Entry {
         care: words::full(l),
@@ -271,7 +386,7 @@ pub fn grow_each(
         if words::subsumes(idle, y) {
             j = pass(ycare, yvalue, j, m, idle);
         } else {
-            match grow(care, value, k, l, y) {
+            match grow_keyed(care, value, &mut keys, k, l, y) {
                 Grown::Count(c) => {
                     k = c;
                 }

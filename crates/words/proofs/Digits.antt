@@ -1,13 +1,13 @@
 -- An operation on the words of strings goes position by position: a word's last digit is the first position's, and a bit
 -- operation works on that digit and on the rest apart. Assumes nothing.
-use mathlib.Core.Path.{_≡_, refl, ap₂, _∙_}
+use mathlib.Core.Path.{_≡_, refl, sym, ap, ap₂, _∙_}
 use mathlib.Core.Bool.{Bool, true, false, _&&_}
 use mathlib.Core.List.{_∷_}
-use Prim.Native.Nat.{ℕ, _+_, _*_, _<_}
-use native.Mathlib.Omega.{arith}
+use Prim.Native.Nat.{ℕ, _+_, _*_, _/_, _%_, _^_, _<_}
 use borrow.Author.Tests.{eq-eqb, ne-eqb, eqb-true, eqb-false}
 use lib.Bits.{bitAnd, bitOr, bitXor, and-block, or-block, xor-block, and-lt, or-lt, xor-lt}
 use lib.Dec.{eqb, lit<}
+use lib.Pow.{high, low}
 use Rattle.model.specs.Strings.{Trit, t0, t1, t*, Trits}
 use Rattle.words.specs.Words.{care-bit, value-bit, care-of, value-of}
 
@@ -98,14 +98,21 @@ nine P a b c d e f g h i t* t* = i
 
 -- ---- Equal numbers
 
--- two numbers are equal if their last digits and the rests are
-pub eqb-digit : (x y d e : ℕ) → d < 2 → e < 2 → eqb (x * 2 + d) (y * 2 + e) ≡ (eqb d e && eqb x y)
-eqb-digit x y d e hd he = go (eqb d e) (eqb x y) refl refl
+-- two numbers are equal if their last k digits and the rests are
+pub eqb-block : (k x y d e : ℕ) → d < 2 ^ k → e < 2 ^ k → eqb (x * 2 ^ k + d) (y * 2 ^ k + e) ≡ (eqb d e && eqb x y)
+eqb-block k x y d e hd he = go (eqb d e) (eqb x y) refl refl
   where
-    go : (u v : Bool) → eqb d e ≡ u → eqb x y ≡ v → eqb (x * 2 + d) (y * 2 + e) ≡ (u && v)
-    go true true p q = eq-eqb _ _ (ap₂ (λ (m n : ℕ). m * 2 + n) (eqb-true x y q) (eqb-true d e p))
-    go true false p q = ne-eqb (x * 2 + d) (y * 2 + e) (λ h. eqb-false x y q (omega (arith, eqb-true d e p)))
-    go false v p q = ne-eqb (x * 2 + d) (y * 2 + e) (λ h. eqb-false d e p (omega arith))
+    go : (u v : Bool) → eqb d e ≡ u → eqb x y ≡ v → eqb (x * 2 ^ k + d) (y * 2 ^ k + e) ≡ (u && v)
+    go true true p q = eq-eqb _ _ (ap₂ (λ (m n : ℕ). m * 2 ^ k + n) (eqb-true x y q) (eqb-true d e p))
+    go true false p q =
+        ne-eqb (x * 2 ^ k + d) (y * 2 ^ k + e)
+        (λ h. eqb-false x y q (sym (high x k hd) ∙ ap (λ (n : ℕ). n / 2 ^ k) h ∙ high y k he))
+    go false v p q =
+        ne-eqb (x * 2 ^ k + d) (y * 2 ^ k + e)
+        (λ h. eqb-false d e p (sym (low x k hd) ∙ ap (λ (n : ℕ). n % 2 ^ k) h ∙ low y k he))
+
+pub eqb-digit : (x y d e : ℕ) → d < 2 → e < 2 → eqb (x * 2 + d) (y * 2 + e) ≡ (eqb d e && eqb x y)
+eqb-digit = eqb-block 1
 
 -- an equation between two operations, at one position more
 pub eqb-cons : (F G : Op) → Digitwise F → Digitwise G → (t u : Trit) (s r : Trits)

@@ -137,14 +137,24 @@ matches-word s r e =
     ∙ all-same _ match-digit (nine _ refl refl refl refl refl refl refl refl refl) s r
     ∙ matches-all s r e
 
+-- two equations that say at each position that the one subsumes the other say it of the strings
+module _ (F G H K : Op) (f : Digitwise F) (g : Digitwise G) (h : Digitwise H) (k : Digitwise K)
+    (start : eqb (F 0 0 0 0) (G 0 0 0 0) ≡ true) (start′ : eqb (H 0 0 0 0) (K 0 0 0 0) ≡ true)
+    (digit : (t u : Trit)
+    → (eqb (on-digit F t u) (on-digit G t u) && eqb (on-digit H t u) (on-digit K t u)) ≡ subsumes-digit t u) where
+  pub subsumes-tests : (s r : Trits) → length s ≡ length r
+      → (eqb (on F s r) (on G s r) && eqb (on H s r) (on K s r)) ≡ subsumes s r
+  subsumes-tests s r e =
+      ap₂ _&&_ (all-equal F G f g start s r e) (all-equal H K h k start′ s r e)
+      ∙ all-both _ _ s r
+      ∙ all-same _ subsumes-digit digit s r
+      ∙ subsumes-all s r e
+
 pub subsumes-word : (s r : Trits) → length s ≡ length r → subsumes-words (word s) (word r) ≡ subsumes s r
 unfolding subsumes-words
-subsumes-word s r e =
-    ap₂ _&&_ (all-equal _ _ (and-of _ _ care-l care-r) care-l refl s r e)
-    (all-equal _ _ (and-of _ _ value-r care-l) value-l refl s r e)
-    ∙ all-both _ _ s r
-    ∙ all-same _ subsumes-digit (nine _ refl refl refl refl refl refl refl refl refl) s r
-    ∙ subsumes-all s r e
+subsumes-word =
+    subsumes-tests _ _ _ _ (and-of _ _ care-l care-r) care-l (and-of _ _ value-r care-l) value-l refl refl
+    (nine _ refl refl refl refl refl refl refl refl refl)
 
 -- ---- The all-zero string: every position fixed, and value 0
 

@@ -43,6 +43,25 @@ unfoldable pub set-word : Bits → ℕ
 set-word [] = 0
 set-word (b ∷ g) = set-word g * 2 + cond b 1 0
 
+-- 1 where the position is 0.
+abbrev pub zero-bit : Trit → ℕ
+zero-bit t0 = 1
+zero-bit t1 = 0
+zero-bit t* = 0
+
+-- The word of the positions that are 0.
+unfoldable pub zeros-of : Trits → ℕ
+zeros-of [] = 0
+zeros-of (t ∷ s) = zeros-of s * 2 + zero-bit t
+
+-- The key of a string of at most 16 positions: its zeros in the high half, its ones in the low half.
+unfoldable pub key-of : Trits → ℕ
+key-of s = zeros-of s * 2 ^ 16 + value-of s
+
+-- Every bit of k is one of m.
+unfoldable pub within : ℕ → ℕ → Bool
+within k m = eqb (bitAnd k m) k
+
 -- ---- And back
 
 -- The position that a care bit and a value bit stand for.
@@ -80,6 +99,10 @@ openings (t ∷ e) (u ∷ y) =
 -- a.care is within b.care, and the values agree on a.care.
 unfoldable pub subsumes-words : Entry → Entry → Bool
 subsumes-words a b = eqb (bitAnd (a .care) (b .care)) (a .care) && eqb (bitAnd (b .value) (a .care)) (a .value)
+
+-- Care without value in the high half, and value.
+unfoldable pub key-words : Entry → ℕ
+key-words a = bitOr ((bitXor (a .care) (a .value) * 2 ^ 16) % 2 ^ 32) (a .value)
 
 -- The values agree where both are fixed.
 unfoldable pub matches-words : Entry → Entry → Bool

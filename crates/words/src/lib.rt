@@ -10,7 +10,7 @@ ghost use Rattle.model.specs.Strings.{Trits, subsumes as subsumes-string, match
 ghost use Rattle.model.specs.Strings.{or-strings, all-zero, fixed as fixed-string, fixed-count, flipped as flipped-string};
 ghost use Rattle.model.specs.Strings.{starred as starred-string, opposed as opposed-string};
 ghost use Rattle.words.specs.Words.{word, set-word, subsumes-words, matches-words, meet-words, or-words, zero-words};
-ghost use Rattle.words.specs.Words.{fixed-words, flipped-words, starred-words, opposed-words};
+ghost use Rattle.words.specs.Words.{key-of, key-words, fixed-words, flipped-words, starred-words, opposed-words};
 ghost use Rattle.words.specs.Words.{openings as openings-string, lacks-word, openings-of, gather, cut-words};
 
 // Bit i of `care` is 1 where position i is fixed; bit i of `value` is its value there, and 0 where it is `*`.
@@ -25,6 +25,15 @@ pub fn subsumes(a: Entry, b: Entry) -> bool
     ensures strings { λ r. ⌜ ((s t : Trits) → length s ≡ length t → a ≡ word s → b ≡ word t → r ≡ subsumes-string s t) ⌝ }
 {
     (((a.care & b.care) ^ a.care) | ((b.value & a.care) ^ a.value)) == 0
+}
+
+// The key of a string of at most 16 positions: its zeros in the high half, its ones in the low half. One string subsumes
+// another exactly where its key is within the other's, which is one test of one word.
+pub fn key(a: Entry) -> u32
+    ensures words { λ r. ⌜ r ≡ key-words a ⌝ }
+    ensures strings { λ r. ⌜ ((s : Trits) → length s ≤ 16 → a ≡ word s → r ≡ key-of s) ⌝ }
+{
+    ((a.care ^ a.value) << 16) | a.value
 }
 
 // Are a and b equal at each position, or is one `*`?

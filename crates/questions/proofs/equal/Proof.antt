@@ -24,11 +24,15 @@ enum-told-2 : tie.Need-enum-told-2
 enum-told-2 c = search needs
 
 same-groups-requires : tie.Need-same-groups-requires
-same-groups-requires c κs = (
-  c .before .before .before .before .before .before .before .before .check .ensures .1 .0 (c .before .before .before .before .before .before .enum-told .given .1),
-  c .before .before .before .before .before .check2 .ensures .1 .0 (c .before .before .before .enum-told2 .given .1),
-  sym (c .if1 .taken),
-)
+same-groups-requires c κs =
+    let at-enum-told2 = c .before .before .before in
+    let at-check2 = at-enum-told2 .before .before in
+    let at-enum-told = at-check2 .before in
+    let at-check = at-enum-told .before .before in (
+      at-check .check .ensures .1 .0 (at-enum-told .enum-told .given .1),
+      at-check2 .check2 .ensures .1 .0 (at-enum-told2 .enum-told2 .given .1),
+      sym (c .if1 .taken),
+    )
 
 replied-requires : tie.Need-replied-requires
 replied-requires c κs = search needs
@@ -39,25 +43,41 @@ returns c = rw (sym (c .before .before .before .check .ensures .0) ∙ c .before
 
 returns-2 : tie.Need-returns-2
 unfolding equal-call after-check
-returns-2 c = rw (sym (c .before .before .before .before .before .before .check .ensures .0) ∙ c .before .before .before .before .enum-told .given .1, sym (c .before .before .before .check2 .ensures .0) ∙ c .before .r2 .given .1)
+returns-2 c =
+    let at-check2 = c .before .before .before in
+    let at-enum-told = at-check2 .before in
+    let at-check = at-enum-told .before .before in
+    rw (
+      sym (at-check .check .ensures .0) ∙ at-enum-told .enum-told .given .1,
+      sym (at-check2 .check2 .ensures .0) ∙ c .before .r2 .given .1,
+    )
 
 returns-3 : tie.Need-returns-3
 unfolding equal-call after-check
 returns-3 c =
+    let at-if1 = c .before .before in
+    let at-enum-told2 = at-if1 .before .before .before in
+    let at-check2 = at-enum-told2 .before .before in
+    let at-enum-told = at-check2 .before in
+    let at-check = at-enum-told .before .before in
     rw (
       c .replied .ensures,
       c .before .same-groups .ensures,
-      sym (c .before .before .before .before .before .before .before .before .before .before .check .ensures .0) ∙ c .before .before .before .before .before .before .before .before .enum-told .given .1,
-      sym (c .before .before .before .before .before .before .before .check2 .ensures .0) ∙ c .before .before .before .before .before .enum-told2 .given .1,
-      eq-eqb _ _ (c .before .before .if1 .taken),
+      sym (at-check .check .ensures .0) ∙ at-enum-told .enum-told .given .1,
+      sym (at-check2 .check2 .ensures .0) ∙ at-enum-told2 .enum-told2 .given .1,
+      eq-eqb _ _ (at-if1 .if1 .taken),
     )
 
 returns-4 : tie.Need-returns-4
 unfolding equal-call after-check
 returns-4 c =
+    let at-enum-told2 = c .before .before .before in
+    let at-check2 = at-enum-told2 .before .before in
+    let at-enum-told = at-check2 .before in
+    let at-check = at-enum-told .before .before in
     rw (
-      sym (c .before .before .before .before .before .before .before .before .check .ensures .0) ∙ c .before .before .before .before .before .before .enum-told .given .1,
-      sym (c .before .before .before .before .before .check2 .ensures .0) ∙ c .before .before .before .enum-told2 .given .1,
+      sym (at-check .check .ensures .0) ∙ at-enum-told .enum-told .given .1,
+      sym (at-check2 .check2 .ensures .0) ∙ at-enum-told2 .enum-told2 .given .1,
       ne-eqb _ _ (c .if1 .left),
     )
 

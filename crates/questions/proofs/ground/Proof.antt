@@ -28,11 +28,23 @@ returns c = rw (sym (c .before .before .before .check .ensures .0) ∙ c .before
 
 returns-2 : tie.Need-returns-2
 unfolding ground-call after-check
-returns-2 c = rw (c .replied .ensures, c .before .without .ensures, sym (c .before .before .before .before .before .before .check .ensures .0) ∙ c .before .before .before .before .enum-told .given .1, c .before .before .if1 .taken)
+returns-2 c =
+    let at-if1 = c .before .before in
+    let at-enum-told = at-if1 .before .before in
+    let at-check = at-enum-told .before .before in
+    rw (
+      c .replied .ensures,
+      c .before .without .ensures,
+      sym (at-check .check .ensures .0) ∙ at-enum-told .enum-told .given .1,
+      at-if1 .if1 .taken,
+    )
 
 returns-3 : tie.Need-returns-3
 unfolding ground-call after-check
-returns-3 c = rw (sym (c .before .before .before .before .check .ensures .0) ∙ c .before .before .enum-told .given .1, c .if1 .left)
+returns-3 c =
+    let at-enum-told = c .before .before in
+    let at-check = at-enum-told .before .before in
+    rw (sym (at-check .check .ensures .0) ∙ at-enum-told .enum-told .given .1, c .if1 .left)
 
 pub ground-spec : {M : Type 1} → statement M
 ground-spec =

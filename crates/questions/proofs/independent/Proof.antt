@@ -34,15 +34,27 @@ returns c = rw (sym (c .before .before .before .check .ensures .0) ∙ c .before
 returns-2 : tie.Need-returns-2
 unfolding independent-call after-check
 returns-2 c =
-    let a = c .before .before .before .before .before .before .before .args in
-    let s : good-sets (a .t .l) (a .a) (a .b) ≡ true = sym (sets-test _ _ _ _ (c .before .before .before .full .ensures)) ∙ c .before .before .if1 .taken in
-    rw (c .replied .ensures, c .before .unrelated .ensures, sym (c .before .before .before .before .before .before .check .ensures .0) ∙ c .before .before .before .before .enum-told .given .1, s)
+    let at-if1 = c .before .before in
+    let at-full = at-if1 .before in
+    let at-enum-told = at-full .before in
+    let at-check = at-enum-told .before .before in
+    let start = at-check .before in
+    let a = start .args in
+    let s : good-sets (a .t .l) (a .a) (a .b) ≡ true =
+    sym (sets-test _ _ _ _ (at-full .full .ensures)) ∙ at-if1 .if1 .taken in
+    rw (
+      c .replied .ensures,
+      c .before .unrelated .ensures,
+      sym (at-check .check .ensures .0) ∙ at-enum-told .enum-told .given .1,
+      s,
+    )
 
 returns-3 : tie.Need-returns-3
 unfolding independent-call after-check
 returns-3 c =
     let a = c .before .before .before .before .before .args in
-    let s : good-sets (a .t .l) (a .a) (a .b) ≡ false = sym (sets-test _ _ _ _ (c .before .full .ensures)) ∙ c .if1 .left in
+    let s : good-sets (a .t .l) (a .a) (a .b) ≡ false =
+    sym (sets-test _ _ _ _ (c .before .full .ensures)) ∙ c .if1 .left in
     rw (sym (c .before .before .before .before .check .ensures .0) ∙ c .before .before .enum-told .given .1, s)
 
 pub independent-spec : {M : Type 1} → statement M

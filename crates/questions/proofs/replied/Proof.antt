@@ -1,5 +1,4 @@
 use Rattle.questions.specs.Replies.{replies}
-use borrow.Author.Needs.{needs}
 use Rattle.questions.proofs.replied.Statement.{statement}
 use Rattle.questions.proofs.replied.Tie as tie
 

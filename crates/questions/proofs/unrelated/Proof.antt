@@ -22,15 +22,21 @@ independent-negative-requires c κs =
 
 returns : tie.Need-returns
 returns c =
-    let g = c .before .before .before .before .before .before .before .pre in
-    rw (c .before .before .before .enum-told .given .1)
-    (c .independent-positive .ensures _ _ _ _ (good-holds (g .0)) (set-length _ _) (set-length _ _) (sym (set-word-set _ _ (g .1))) (sym (set-word-set _ _ (g .2))))
+    let at-enum-told = c .before .before .before in
+    let start = at-enum-told .before .before .before .before in
+    let g = start .pre in
+    rw (at-enum-told .enum-told .given .1)
+    (c .independent-positive .ensures _ _ _ _ (good-holds (g .0)) (set-length _ _) (set-length _ _)
+    (sym (set-word-set _ _ (g .1))) (sym (set-word-set _ _ (g .2))))
 
 returns-2 : tie.Need-returns-2
 returns-2 c =
-    let g = c .before .before .before .before .before .before .before .pre in
-    rw (c .before .before .before .enum-told2 .given .1)
-    (c .independent-negative .ensures _ _ _ (good-holds (g .0)) (set-length _ _) (set-length _ _) (sym (set-word-set _ _ (g .1))) (sym (set-word-set _ _ (g .2))))
+    let at-enum-told2 = c .before .before .before in
+    let start = at-enum-told2 .before .before .before .before in
+    let g = start .pre in
+    rw (at-enum-told2 .enum-told2 .given .1)
+    (c .independent-negative .ensures _ _ _ (good-holds (g .0)) (set-length _ _) (set-length _ _)
+    (sym (set-word-set _ _ (g .1))) (sym (set-word-set _ _ (g .2))))
 
 pub unrelated-spec : {M : Type 1} → statement M
 unrelated-spec =

@@ -3,7 +3,8 @@ use mathlib.Core.Bool.{_&&_}
 use Prim.Native.Nat.{_-_, _≤_}
 use native.Mathlib.Omega.{arith}
 use Rattle.tables.specs.Values.{clean, entry-at, all-from, all-clean}
-use Rattle.tables.proofs.Checking.{scan-start, scan-turn, scan-end, clean-hit}
+use Rattle.tables.proofs.Scans.{all-scan, scan-start, scan-turn, scan-end}
+use Rattle.tables.proofs.Checking.{clean-hit}
 use borrow.Author.Needs.{needs}
 use Rattle.tables.proofs.lists.all_clean.Statement.{statement}
 use Rattle.tables.proofs.lists.all_clean.Tie as tie
@@ -20,7 +21,7 @@ full-requires c κs = search needs
 
 loop-holds : tie.Need-loop-holds Inv-loop μ-loop
 unfolding all-clean
-loop-holds c = (omega arith, scan-start _ _)
+loop-holds c = (omega arith, scan-start all-scan _ _)
 
 mul-c : tie.Need-mul-c Inv-loop μ-loop
 mul-c c = search needs
@@ -44,12 +45,12 @@ loop-again : tie.Need-loop-again Inv-loop μ-loop
 loop-again c =
     let lp = c .before .before .before .loop in (
       omega arith,
-      scan-turn _ _ (lp .good) (lp .i) _ (omega arith) (lp .inv .1) _
+      scan-turn all-scan _ _ (lp .good) (lp .i) _ (lp .inv .1) (omega arith) _
           (clean-hit _ _ _ _ (c .before .before .before .before .full .ensures)),
     )
 
 returns : tie.Need-returns Inv-loop μ-loop
-returns c = let lp = c .before .loop in scan-end _ _ (lp .good) (lp .i) _ (omega arith) (lp .inv .1)
+returns c = let lp = c .before .loop in scan-end all-scan _ _ (lp .good) (lp .i) _ (lp .inv .1) (omega arith)
 
 pub all-clean-spec : {M : Type 1} → statement M
 all-clean-spec =

@@ -11,7 +11,7 @@ pack-requires : tie.Need-pack-requires
 pack-requires c κs = search needs
 
 returns : tie.Need-returns
-returns c = c .pack .ensures
+returns c = c .pack .ensures .1
 
 returns-2 : tie.Need-returns-2
 returns-2 c = λ l τ s h e y.

@@ -4,42 +4,55 @@ use Prim.Native.Nat.{_+_, _-_, _≤_}
 use native.Mathlib.Omega.{arith}
 use lib.ListN.{getD}
 use Rattle.model.specs.Growth.{Entries, grow, grow-all}
-use Rattle.tables.specs.Lists.{Holds, strings, stops}
-use Rattle.tables.proofs.Arrays.{holds-at, holds-length}
+use Rattle.tables.specs.Lists.{Holds, strings, stops, KeysTo}
+use Rattle.tables.proofs.Arrays.{holds-is, holds-at, holds-length}
 use Rattle.tables.proofs.Idle.{Beside, beside-start, beside-step}
+use Rattle.tables.proofs.Keyed.{keyed-step}
 use Rattle.tables.proofs.Passing.{toward-one, toward-to}
-use Rattle.tables.proofs.Toward.{Toward, toward-start, toward-step, toward-stop, toward-end, within-count, leaves-makes}
+use Rattle.tables.proofs.Toward.{Toward, toward-start, toward-step, toward-stop, toward-end, within-count}
 use borrow.Author.Needs.{needs}
 use Rattle.tables.proofs.lists.grow_each.Statement.{statement}
 use Rattle.tables.proofs.lists.grow_each.Tie as tie
 
 abbrev Inv-loop : tie.InvT-loop
-Inv-loop care₀ value₀ n l ycare yvalue m k₀ idle₀ j₀ care value k idle j =
+Inv-loop care₀ value₀ n l ycare yvalue m keys₀ k₀ idle₀ j₀ care value keys k idle j =
     (j ≤ m) × (k ≤ 256)
     × ((τ ρ : Entries) → Holds l care₀ value₀ n τ → Holds l ycare yvalue m ρ
-    → Toward l grow ρ [] (grow-all τ ρ) care value k j × Beside l (strings l care value k) idle)
+    → Toward l grow ρ [] (grow-all τ ρ) care value k j × Beside l (strings l care value k) idle
+    × KeysTo l keys (strings l care value k))
 
 abbrev μ-loop : tie.MeasureT-loop
-μ-loop care₀ value₀ n l ycare yvalue m k₀ idle₀ j₀ care value k idle j = m - j
+μ-loop care₀ value₀ n l ycare yvalue m keys₀ k₀ idle₀ j₀ care value keys k idle j = m - j
+
+write-keys-requires : tie.Need-write-keys-requires Inv-loop μ-loop
+write-keys-requires c κs = search needs
 
 full-requires : tie.Need-full-requires Inv-loop μ-loop
 full-requires c κs = search needs
 
 loop-holds : tie.Need-loop-holds Inv-loop μ-loop
 unfolding grow-all
-loop-holds c = (omega arith, omega arith, λ τ ρ h y. (toward-start _ grow ρ [] _ h refl, beside-start _ _ _ (c .full .ensures)))
+loop-holds c = (
+  omega arith,
+  omega arith,
+  λ τ ρ h y. (
+    toward-start _ grow ρ [] _ h refl,
+    beside-start _ _ _ (c .full .ensures),
+    rw (holds-is h) (λ short. c .before .write-keys .ensures _ τ short h),
+  ),
+)
 
-mul-t15 : tie.Need-mul-t15 Inv-loop μ-loop
-mul-t15 c = search needs
+mul-t20 : tie.Need-mul-t20 Inv-loop μ-loop
+mul-t20 c = search needs
 
-element-copy-out-t18 : tie.Need-element-copy-out-t18 Inv-loop μ-loop
-element-copy-out-t18 c = search needs
+element-copy-out-t23 : tie.Need-element-copy-out-t23 Inv-loop μ-loop
+element-copy-out-t23 c = search needs
 
-mul-t19 : tie.Need-mul-t19 Inv-loop μ-loop
-mul-t19 c = search needs
+mul-t24 : tie.Need-mul-t24 Inv-loop μ-loop
+mul-t24 c = search needs
 
-element-copy-out-t22 : tie.Need-element-copy-out-t22 Inv-loop μ-loop
-element-copy-out-t22 c = search needs
+element-copy-out-t27 : tie.Need-element-copy-out-t27 Inv-loop μ-loop
+element-copy-out-t27 c = search needs
 
 add-j : tie.Need-add-j Inv-loop μ-loop
 add-j c = search needs
@@ -62,12 +75,13 @@ loop-again c =
       λ τ ρ h y.
           let w = lp .inv .2 τ ρ h y .0 in
           let s = lp .inv .2 τ ρ h y .1 in
+          let ks = lp .inv .2 τ ρ h y .2 in
           let e = sym (c .before .before .subsumes .ensures .0) ∙ c .before .if1 .taken in
-          (toward-to y s (lp .j + 1) _ (p .0) (p .1) (p .2) (toward-one y s (lp .j) (omega arith) e w), s),
+          (toward-to y s (lp .j + 1) _ (p .0) (p .1) (p .2) (toward-one y s (lp .j) (omega arith) e w), s, ks),
     )
 
-grow-requires : tie.Need-grow-requires Inv-loop μ-loop
-grow-requires c κs = search needs
+grow-keyed-requires : tie.Need-grow-keyed-requires Inv-loop μ-loop
+grow-keyed-requires c κs = search needs
 
 enum-known-c : tie.Need-enum-known-c Inv-loop μ-loop
 enum-known-c c = search needs
@@ -79,12 +93,13 @@ returns : tie.Need-returns Inv-loop μ-loop
 returns c = (
   tt,
   λ τ ρ h y.
-      let lp = c .before .before .before .before .before .before .before .before .before .before .loop in
-      let g = c .before .before .grow in
+      let lp = c .before .before .before .before .before .before .before .before .before .before .before .loop in
+      let g = c .before .before .grow-keyed in
       let w = lp .inv .2 τ ρ h y .0 in
-      let told = leaves-makes (g .ensures .1 _ (getD ρ (lp .j) []) (w .list) (holds-length y (lp .j) (omega arith))
-      (holds-at y (lp .j) (omega arith))) in
-      rw (toward-stop _ grow ρ [] _ w (omega (arith, y .count)) told (c .enum-told .given .1)) stops,
+      let ks = lp .inv .2 τ ρ h y .2 in
+      let told = g .ensures .1 _ (getD ρ (lp .j) []) (w .list) (holds-length y (lp .j) (omega arith))
+      (holds-at y (lp .j) (omega arith)) ks in
+      rw (toward-stop _ grow ρ [] _ w (omega (arith, y .count)) (told .0) (c .enum-told .given .1)) stops,
 )
 
 wider-requires : tie.Need-wider-requires Inv-loop μ-loop
@@ -95,8 +110,8 @@ loop-less-2 c = search needs
 
 loop-again-2 : tie.Need-loop-again-2 Inv-loop μ-loop
 loop-again-2 c =
-    let lp = c .before .before .before .before .before .before .before .before .before .before .before .before .loop in
-    let g = c .before .before .before .before .grow in
+    let lp = c .before .before .before .before .before .before .before .before .before .before .before .before .before .loop in
+    let g = c .before .before .before .before .grow-keyed in
     let is = c .before .before .c .given .1 in (
       omega arith,
       within-count (g .ensures .0) is,
@@ -105,9 +120,10 @@ loop-again-2 c =
           let s = lp .inv .2 τ ρ h y .1 in
           let n = holds-length y (lp .j) (omega arith) in
           let at = holds-at y (lp .j) (omega arith) in
-          let told = leaves-makes (g .ensures .1 _ (getD ρ (lp .j) []) (w .list) n at) in (
-            toward-step _ grow ρ [] _ w (omega (arith, y .count)) told is,
-            beside-step (getD ρ (lp .j) []) told is n at s (c .wider .ensures),
+          let told = g .ensures .1 _ (getD ρ (lp .j) []) (w .list) n at (lp .inv .2 τ ρ h y .2) in (
+            toward-step _ grow ρ [] _ w (omega (arith, y .count)) (told .0) is,
+            beside-step (getD ρ (lp .j) []) (told .0) is n at s (c .wider .ensures),
+            keyed-step (g .last .1 .1 .0) told is,
           ),
     )
 
@@ -120,6 +136,6 @@ pub grow-each-spec : {M : Type 1} → statement M
 grow-each-spec =
     tie.close
     (tie.spec
-    Inv-loop μ-loop full-requires loop-holds mul-t15 element-copy-out-t18 mul-t19 element-copy-out-t22 add-j
-    subsumes-requires pass-requires loop-less loop-again grow-requires enum-known-c enum-told returns wider-requires
+    Inv-loop μ-loop write-keys-requires full-requires loop-holds mul-t20 element-copy-out-t23 mul-t24 element-copy-out-t27 add-j
+    subsumes-requires pass-requires loop-less loop-again grow-keyed-requires enum-known-c enum-told returns wider-requires
     loop-less-2 loop-again-2 returns-2)

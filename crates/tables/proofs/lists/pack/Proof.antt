@@ -105,8 +105,10 @@ loop-again c =
 
 returns : tie.Need-returns Inv-loop μ-loop
 returns c =
-    let w = c .before .loop in
-    λ l τ s h e y. packing-end s τ (w .k) (w .i) (w .inv .2 l τ s h e y) (omega (arith, h .count)) (h .good)
+    let w = c .before .loop in (
+      omega arith,
+      λ l τ s h e y. packing-end s τ (w .k) (w .i) (w .inv .2 l τ s h e y) (omega (arith, h .count)) (h .good),
+    )
 
 pub pack-spec : {M : Type 1} → statement M
 pack-spec =

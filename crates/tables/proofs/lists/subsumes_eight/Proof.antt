@@ -4,7 +4,7 @@ use Prim.Native.Nat.{_-_, _≤_}
 use native.Mathlib.Omega.{arith}
 use Rattle.words.specs.Words.{subsumes-words}
 use Rattle.tables.specs.Values.{entry-at, all-from}
-use Rattle.tables.proofs.Checking.{scan-whole, scan-turn, scan-end}
+use Rattle.tables.proofs.Scans.{all-scan, scan-whole, scan-turn, scan-end}
 use borrow.Author.Needs.{needs}
 use Rattle.tables.proofs.lists.subsumes_eight.Statement.{statement}
 use Rattle.tables.proofs.lists.subsumes_eight.Tie as tie
@@ -21,7 +21,7 @@ add-end : tie.Need-add-end Inv-loop μ-loop
 add-end c = search needs
 
 loop-holds : tie.Need-loop-holds Inv-loop μ-loop
-loop-holds c = (omega arith, scan-whole _ _ 8 _ refl)
+loop-holds c = (omega arith, scan-whole all-scan _ _ 8 _ refl)
 
 mul-t10 : tie.Need-mul-t10 Inv-loop μ-loop
 mul-t10 c = search needs
@@ -47,10 +47,10 @@ loop-less c = search needs
 loop-again : tie.Need-loop-again Inv-loop μ-loop
 loop-again c =
     let lp = c .before .before .before .before .loop in
-    (omega arith, scan-turn _ _ (lp .all) (lp .i) _ (omega arith) (lp .inv .1) _ (c .subsumes .ensures .0))
+    (omega arith, scan-turn all-scan _ _ (lp .all) (lp .i) _ (lp .inv .1) (omega arith) _ (c .subsumes .ensures .0))
 
 returns : tie.Need-returns Inv-loop μ-loop
-returns c = let lp = c .before .loop in scan-end _ _ (lp .all) (lp .i) _ (omega arith) (lp .inv .1)
+returns c = let lp = c .before .loop in scan-end all-scan _ _ (lp .all) (lp .i) _ (lp .inv .1) (omega arith)
 
 pub subsumes-eight-spec : {M : Type 1} → statement M
 subsumes-eight-spec =

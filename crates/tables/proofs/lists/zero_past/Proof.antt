@@ -3,7 +3,7 @@ use mathlib.Core.Bool.{_&&_}
 use Prim.Native.Nat.{_-_, _≤_}
 use native.Mathlib.Omega.{arith}
 use Rattle.tables.specs.Values.{is-zero, entry-at, all-from, zero-past}
-use Rattle.tables.proofs.Checking.{scan-turn, scan-end}
+use Rattle.tables.proofs.Scans.{all-scan, scan-turn, scan-end}
 use borrow.Author.Needs.{needs}
 use Rattle.tables.proofs.lists.zero_past.Statement.{statement}
 use Rattle.tables.proofs.lists.zero_past.Tie as tie
@@ -41,10 +41,10 @@ loop-again : tie.Need-loop-again Inv-loop μ-loop
 unfolding is-zero
 loop-again c =
     let lp = c .before .before .before .loop in
-    (omega arith, scan-turn _ _ (lp .good) (lp .i) _ (omega arith) (lp .inv .1) _ refl)
+    (omega arith, scan-turn all-scan _ _ (lp .good) (lp .i) _ (lp .inv .1) (omega arith) _ refl)
 
 returns : tie.Need-returns Inv-loop μ-loop
-returns c = let lp = c .before .loop in scan-end _ _ (lp .good) (lp .i) _ (omega arith) (lp .inv .1)
+returns c = let lp = c .before .loop in scan-end all-scan _ _ (lp .good) (lp .i) _ (lp .inv .1) (omega arith)
 
 pub zero-past-spec : {M : Type 1} → statement M
 zero-past-spec =
