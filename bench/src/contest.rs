@@ -1,11 +1,12 @@
 //! One input on both sides: that they give the same, and how long they take.
 
+use std::borrow::Cow;
 use std::hint::black_box;
 
-use reference::refusal::Refusal;
-use reference::{growth, values, Entry, ENTRIES};
+use reference::refusal::{number_of, Refusal};
+use reference::{growth, values, Entry, Equation, Side, ENTRIES};
 
-use crate::load::{Input, L};
+use crate::load::{Chain, Input, L};
 use crate::ours::{self, Table};
 use crate::timing::{least, Times};
 
@@ -14,16 +15,14 @@ type Answer = Result<Table, u32>;
 
 /// How the two sides differ on an input; None where they give the same.
 pub fn difference(input: &Input) -> Option<String> {
-    let (ours, plain) = match input {
-        Input::Strings(strings) => (ours_grown(&Table::of(L, strings)), plain_grown(strings)),
-        Input::Groups(groups) => (ours::convert(L, groups), plain_converted(groups)),
-    };
-    match (ours, plain) {
-        (Ok(ours), Ok(plain)) => table_difference(&ours, &plain),
-        (ours, plain) => {
-            let (ours, plain) = (number(&ours), number(&plain));
-            (ours != plain).then(|| format!("ours returns {ours}, plain {plain}"))
+    match input {
+        Input::Strings(strings) => {
+            answer_difference(ours_grown(&Table::of(L, strings)), plain_grown(strings))
         }
+        Input::Groups(groups) => {
+            answer_difference(ours::convert(L, groups), plain_converted(groups))
+        }
+        Input::Chain(chain) => chain_difference(chain),
     }
 }
 
@@ -40,6 +39,7 @@ pub fn times(inputs: &[Input]) -> Times {
 enum OurInput<'a> {
     Strings(Box<Table>),
     Groups(&'a [u32]),
+    Chain(&'a Chain, Box<Table>),
 }
 
 impl OurInput<'_> {
@@ -47,17 +47,21 @@ impl OurInput<'_> {
         match input {
             Input::Strings(strings) => OurInput::Strings(Box::new(Table::of(L, strings))),
             Input::Groups(groups) => OurInput::Groups(groups),
+            Input::Chain(chain) => OurInput::Chain(chain, Box::new(of_plain(&chain.start))),
         }
     }
 }
 
-/// Both sides start from nothing: ours with an empty table, plain Rust with a new vector.
+/// Growing starts from nothing on both sides: an empty table, and a new vector.
 fn our_turn(input: &OurInput) {
     match black_box(input) {
         OurInput::Strings(strings) => {
             let _ = black_box(ours_grown(strings));
         }
         OurInput::Groups(groups) => drop(black_box(ours::convert(L, groups))),
+        OurInput::Chain(chain, start) => {
+            black_box(ours_after(chain, start));
+        }
     }
 }
 
@@ -69,6 +73,7 @@ fn plain_turn(input: &Input) {
             black_box(&list);
         }
         Input::Groups(groups) => drop(black_box(values::convert(L, groups))),
+        Input::Chain(chain) => drop(black_box(plain_after(chain))),
     }
 }
 
@@ -86,8 +91,38 @@ fn plain_grown(strings: &[Entry]) -> Answer {
 
 fn plain_converted(groups: &[u32]) -> Answer {
     values::convert(L, groups)
-        .map(|table| Table::of(L, &table.entries))
+        .map(|table| of_plain(&table))
         .map_err(Refusal::number)
+}
+
+/// The table after the last equation of a chain.
+fn ours_after(chain: &Chain, start: &Table) -> Table {
+    let apply = |table, equation| ours::equation(chain.side, table, equation).table;
+    chain.equations.iter().fold(*start, apply)
+}
+
+/// The same; a refused equation leaves the table as it was.
+fn plain_after(chain: &Chain) -> Cow<'_, reference::Table> {
+    let mut table = Cow::Borrowed(&chain.start);
+    for equation in &chain.equations {
+        if let Ok(next) = plain_equation(chain.side, &table, equation) {
+            table = Cow::Owned(next);
+        }
+    }
+    table
+}
+
+fn plain_equation(
+    side: Side,
+    table: &reference::Table,
+    equation: &Equation,
+) -> Result<reference::Table, Refusal> {
+    values::equation(side, table, u32::from(equation.left), &equation.term)
+}
+
+/// A plain table as ours lays it out.
+fn of_plain(table: &reference::Table) -> Table {
+    Table::of(table.l, &table.entries)
 }
 
 /// The number that a call returns.
@@ -96,6 +131,37 @@ fn number(answer: &Answer) -> u32 {
         Ok(_) => 0,
         Err(number) => *number,
     }
+}
+
+/// How two answers differ: in their tables, where both sides accept, else in their numbers.
+fn answer_difference(ours: Answer, plain: Answer) -> Option<String> {
+    match (ours, plain) {
+        (Ok(ours), Ok(plain)) => table_difference(&ours, &plain),
+        (ours, plain) => number_difference(number(&ours), number(&plain)),
+    }
+}
+
+/// How the two sides differ at the first equation of a chain where they do. The table that a
+/// refusal returns is compared too.
+fn chain_difference(chain: &Chain) -> Option<String> {
+    let mut ours = of_plain(&chain.start);
+    let mut plain = chain.start.clone();
+    for (i, equation) in chain.equations.iter().enumerate() {
+        let timed = ours::equation(chain.side, ours, equation);
+        let outcome = plain_equation(chain.side, &plain, equation);
+        let numbers = number_difference(timed.code, number_of(&outcome));
+        ours = timed.table;
+        plain = outcome.unwrap_or(plain);
+        let difference = numbers.or_else(|| table_difference(&ours, &of_plain(&plain)));
+        if let Some(difference) = difference {
+            return Some(format!("equation {}: {difference}", i + 1));
+        }
+    }
+    None
+}
+
+fn number_difference(ours: u32, plain: u32) -> Option<String> {
+    (ours != plain).then(|| format!("ours returns {ours}, plain {plain}"))
 }
 
 /// How two tables differ, the words past the count included.

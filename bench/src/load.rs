@@ -1,8 +1,13 @@
-//! The random inputs: the same in each run, since the seed is fixed.
+//! The random inputs: the same in each run, since the seeds are fixed.
 
-use reference::{Entry, ENTRIES};
+use std::ops::RangeInclusive;
 
-/// The number of variables of every input.
+use reference::terms::head;
+use reference::{values, Entry, Equation, Refusal, Side, Table, ENTRIES, VARIABLES};
+
+use crate::random::{Draws, Random};
+
+/// The number of variables of every input but the chains.
 pub const L: u32 = 12;
 
 /// Different inputs for each row, so that no single list decides it.
@@ -11,19 +16,42 @@ const INPUTS: usize = 64;
 /// Any nonzero number does; this one is the fraction of the golden ratio in 64 bits.
 const SEED: u64 = 0x9E37_79B9_7F4A_7C15;
 
+/// The seeds of the tables that one equation is applied to.
+const EQUATION_SEEDS: RangeInclusive<u32> = 1..=100;
+
+/// The seeds of the tables that chains start from.
+const CHAIN_SEEDS: RangeInclusive<u32> = 1..=32;
+
+/// The equations of a chain.
+const CHAIN: usize = 20;
+
 /// What a row times.
 #[derive(Clone, Copy, PartialEq, Eq)]
 pub enum Kind {
     Growing,
     Converting,
+    Equation,
+    Chain,
 }
 
 impl Kind {
+    pub const ALL: [Kind; 4] = [Kind::Growing, Kind::Converting, Kind::Equation, Kind::Chain];
+
     /// The promised bound on the time of ours, as a part of the time of plain Rust.
     pub fn bound(self) -> f64 {
         match self {
-            Kind::Growing => 0.50,
+            Kind::Growing | Kind::Equation => 0.50,
             Kind::Converting => 0.40,
+            Kind::Chain => 0.60,
+        }
+    }
+
+    pub fn name(self) -> &'static str {
+        match self {
+            Kind::Growing => "growing",
+            Kind::Converting => "converting",
+            Kind::Equation => "equation",
+            Kind::Chain => "chain",
         }
     }
 }
@@ -34,6 +62,15 @@ pub enum Input {
     Strings(Vec<Entry>),
     /// Groups that are converted, in order.
     Groups(Vec<u32>),
+    /// Equations that are applied, in order.
+    Chain(Chain),
+}
+
+/// Equations of one side, each on the table that the last one returned.
+pub struct Chain {
+    pub side: Side,
+    pub start: Table,
+    pub equations: Vec<Equation>,
 }
 
 /// Inputs of one sort, which make one line of the printed table.
@@ -43,8 +80,9 @@ pub struct Row {
     pub inputs: Vec<Input>,
 }
 
-/// All rows: growing by rising density of stars, then converting.
-pub fn rows() -> Vec<Row> {
+/// All rows: growing by rising density of stars, converting, one equation, chains of equations.
+/// An error says that a start table is refused.
+pub fn rows() -> Result<Vec<Row>, Refusal> {
     let mut random = Random(SEED);
     let mut rows = Vec::new();
     for percent in (0..=90).step_by(10) {
@@ -53,12 +91,18 @@ pub fn rows() -> Vec<Row> {
     for count in [32, 128] {
         rows.push(converting(&mut random, count));
     }
-    rows
+    // Of 5 draws one change of side is full already, of 32 draws every one.
+    for (side, draws) in [(Side::Positive, 32), (Side::Negative, 4)] {
+        rows.push(equation(side, draws)?);
+    }
+    // Of 16 draws hardly an equation is full, of 32 most are; of 22 one table has all 256 entries.
+    rows.push(chains(&mut random, 22)?);
+    Ok(rows)
 }
 
 /// Lists of 256 strings, each position `*` with the given chance.
 fn growing(random: &mut Random, percent: u32) -> Row {
-    let mut list = || (0..ENTRIES).map(|_| random.string(percent)).collect();
+    let mut list = || (0..ENTRIES).map(|_| random.string(L, percent)).collect();
     Row {
         name: format!("growing by {ENTRIES}, {percent} % stars"),
         kind: Kind::Growing,
@@ -68,7 +112,7 @@ fn growing(random: &mut Random, percent: u32) -> Row {
 
 /// Rows of nonzero groups.
 fn converting(random: &mut Random, count: usize) -> Row {
-    let mut groups = || (0..count).map(|_| random.group()).collect();
+    let mut groups = || (0..count).map(|_| random.group(L)).collect();
     Row {
         name: format!("converting {count}"),
         kind: Kind::Converting,
@@ -76,38 +120,56 @@ fn converting(random: &mut Random, count: usize) -> Row {
     }
 }
 
-/// The generator xorshift64* (Marsaglia's shifts, then Vigna's multiplier): small, and even
-/// enough in its upper bits for choices like these.
-struct Random(u64);
+/// The equation X1 = f(X2, X3) by itself.
+fn equation(side: Side, draws: usize) -> Result<Row, Refusal> {
+    let equation = Equation {
+        left: 1,
+        term: vec![head(1, 2), 2, 3],
+    };
+    let input = |seed| {
+        Ok(Input::Chain(Chain {
+            side,
+            start: start(side, L, seed, draws)?,
+            equations: vec![equation.clone()],
+        }))
+    };
+    Ok(Row {
+        name: format!("{} equation, {draws} draws", side_name(side)),
+        kind: Kind::Equation,
+        inputs: EQUATION_SEEDS.map(input).collect::<Result<_, _>>()?,
+    })
+}
 
-impl Random {
-    /// The next 32 bits: the upper half, since the lower bits are the weaker ones.
-    fn next(&mut self) -> u32 {
-        self.0 ^= self.0 >> 12;
-        self.0 ^= self.0 << 25;
-        self.0 ^= self.0 >> 27;
-        (self.0.wrapping_mul(0x2545_F491_4F6C_DD1D) >> 32) as u32
+/// Chains of random positive equations of 16 variables.
+fn chains(random: &mut Random, draws: usize) -> Result<Row, Refusal> {
+    let input = |seed| {
+        Ok(Input::Chain(Chain {
+            side: Side::Positive,
+            start: start(Side::Positive, VARIABLES, seed, draws)?,
+            equations: (0..CHAIN).map(|_| random.equation(VARIABLES)).collect(),
+        }))
+    };
+    Ok(Row {
+        name: format!("chain of {CHAIN}, {draws} draws"),
+        kind: Kind::Chain,
+        inputs: CHAIN_SEEDS.map(input).collect::<Result<_, _>>()?,
+    })
+}
+
+/// The table of so many strings drawn, zeros and repeats included, on the given side.
+fn start(side: Side, l: u32, seed: u32, draws: usize) -> Result<Table, Refusal> {
+    let mut strings = Draws(seed);
+    let strings: Vec<u32> = (0..draws).map(|_| strings.string(l)).collect();
+    let table = values::convert(l, &strings)?;
+    match side {
+        Side::Positive => Ok(table),
+        Side::Negative => values::change_side(&table),
     }
+}
 
-    /// A number below the limit, by scaling; uneven only by one part in 2^32 / limit.
-    fn below(&mut self, limit: u32) -> u32 {
-        ((u64::from(self.next()) * u64::from(limit)) >> 32) as u32
-    }
-
-    /// A string: each position `*` with the given chance, else 0 or 1 evenly.
-    fn string(&mut self, percent: u32) -> Entry {
-        let mut entry = Entry::ALL_STAR;
-        for i in 0..L {
-            if self.below(100) >= percent {
-                entry.care |= 1 << i;
-                entry.value |= self.below(2) << i;
-            }
-        }
-        entry
-    }
-
-    /// A group: a word from 1 to 2^L - 1.
-    fn group(&mut self) -> u32 {
-        1 + self.below((1 << L) - 1)
+fn side_name(side: Side) -> &'static str {
+    match side {
+        Side::Positive => "positive",
+        Side::Negative => "negative",
     }
 }

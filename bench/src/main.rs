@@ -1,10 +1,11 @@
-//! Compares the verified growth rule and conversion with plain Rust: first that both give the
-//! same tables on every input, then the time that they take. With `--same` it stops after the
-//! first part; with `--check` a ratio above its bound is a failure.
+//! Compares the verified growth rule, conversion and equation with plain Rust: first that both
+//! give the same tables on every input, then the time that they take. With `--same` it stops
+//! after the first part; with `--check` a ratio above its bound is a failure.
 
 mod contest;
 mod load;
 mod ours;
+mod random;
 mod timing;
 
 use std::process::ExitCode;
@@ -49,7 +50,8 @@ fn main() -> ExitCode {
 
 /// The whole comparison; the message of a failure.
 fn run(mode: Mode) -> Result<(), String> {
-    let rows = load::rows();
+    let rows =
+        load::rows().map_err(|refusal| format!("a start table is refused {}", refusal.number()))?;
     rows.iter().try_for_each(check_same)?;
     if mode == Mode::Same {
         let inputs: usize = rows.iter().map(|row| row.inputs.len()).sum();
@@ -143,11 +145,8 @@ fn print(results: &[Measured]) {
             result.row.kind.bound()
         );
     }
-    println!(
-        "worst ratio growing {:.3}, converting {:.3}",
-        worst(results, Kind::Growing),
-        worst(results, Kind::Converting)
-    );
+    let worst = Kind::ALL.map(|kind| format!("{} {:.3}", kind.name(), worst(results, kind)));
+    println!("worst ratio {}", worst.join(", "));
 }
 
 /// The greatest ratio among the rows of a kind.

@@ -1,6 +1,6 @@
-//! The verified side: the two calls of libtiming.a, wrapped in safe functions.
+//! The verified side: the three calls of libtiming.a, wrapped in safe functions.
 
-use reference::{Entry, ENTRIES};
+use reference::{Entry, Equation, Side, ENTRIES};
 
 /// The number of the refusal of a list that needs entry 257.
 const FULL: u32 = 8;
@@ -18,9 +18,9 @@ pub struct Table {
 
 /// The number of an answer, with the table that goes with it.
 #[repr(C)]
-struct Timed {
-    code: u32,
-    table: Table,
+pub struct Timed {
+    pub code: u32,
+    pub table: Table,
 }
 
 extern "C" {
@@ -34,6 +34,7 @@ extern "C" {
         yvalue: *const [u32; ENTRIES],
         m: usize,
     ) -> usize;
+    fn timing_equation(side: u32, t: Table, x: u32, tokens: *const u16, len: usize) -> Timed;
 }
 
 impl Table {
@@ -97,4 +98,19 @@ pub fn grow(table: &mut Table, strings: &Table) -> Result<(), u32> {
     }
     table.n = count;
     Ok(())
+}
+
+/// One equation: its number, and the table that it returns, which after a refusal is the one given.
+pub fn equation(side: Side, table: Table, equation: &Equation) -> Timed {
+    let Equation { left, term } = equation;
+    // SAFETY: the pointer and the length are those of one slice, which is only read.
+    unsafe {
+        timing_equation(
+            side.number(),
+            table,
+            u32::from(*left),
+            term.as_ptr(),
+            term.len(),
+        )
+    }
 }

@@ -5,8 +5,11 @@ use std::time::{Duration, Instant};
 /// In one round each side is sampled at least this often ...
 const SAMPLES: u32 = 100;
 
-/// ... and for at least this long.
+/// ... and for at least this long, ...
 const TIME: Duration = Duration::from_millis(20);
+
+/// ... but where samples are long the round ends once a side has taken this long.
+const LONG: Duration = Duration::from_secs(1);
 
 /// A sample lasts at least this long, so that reading the clock is a small part of it.
 const SAMPLE: Duration = Duration::from_micros(10);
@@ -40,7 +43,9 @@ pub fn least(ours: impl FnMut(), plain: impl FnMut()) -> Times {
     let mut ours = Side::new(ours);
     let mut plain = Side::new(plain);
     let mut samples = 0;
-    while samples < SAMPLES || ours.spent < TIME || plain.spent < TIME {
+    while ours.spent.max(plain.spent) < LONG
+        && (samples < SAMPLES || ours.spent < TIME || plain.spent < TIME)
+    {
         ours.sample();
         plain.sample();
         samples += 1;

@@ -6,7 +6,7 @@ ghost use mathlib.Core.Path.{_≡_};
 ghost use mathlib.Core.Bool.{true, cond};
 ghost use mathlib.Core.List.{[], map};
 ghost use mathlib.Core.Option.{some};
-ghost use Prim.Native.Nat.{ℕ, _+_, _≤_};
+ghost use Prim.Native.Nat.{ℕ, _+_, _≤_, _<_};
 ghost use lib.Dec.{ltb};
 ghost use lib.ListN.{length, getD};
 ghost use Rattle.model.specs.Groups.{Bits};
@@ -350,8 +350,16 @@ fn grow_keyed(
     }
 }
 
-// Grows the list by each of the m entries of another list, in order, up to the first that is full. `idle` is a string by
-// which growing changes nothing; nor does it by a string that `idle` subsumes, which spares its passes.
+// The slot of a string in the filter of `grow_each`. Which one it is, is a matter of speed alone.
+fn slot(y: Entry) -> usize
+    ensures { λ r. ⌜ r < 64 ⌝ }
+{
+    (y.value % 61) as usize
+}
+
+// Grows the list by each of the m entries of another list, in order, up to the first that is full. A string by which growing
+// changes nothing is idle, and so is what it subsumes; growing by that is spared. `idle` is the widest such string met,
+// and `fcare`, `fvalue` hold one for each slot, the last that came there: most strings of a closure come again.
 pub fn grow_each(
     care: &mut [u32; 256],
     value: &mut [u32; 256],
@@ -371,6 +379,8 @@ pub fn grow_each(
 {
     let mut keys = [0u32; 256];
     write_keys(care, value, n, &mut keys);
+    let mut fcare = [words::full(l); 64];
+    let mut fvalue = [0u32; 64];
     let mut k = n;
     let mut idle = Entry {
         care: words::full(l),
@@ -383,9 +393,14 @@ pub fn grow_each(
             value: yvalue[j],
         };
         j += 1;
+        let s = slot(y);
+        let last = Entry {
+            care: fcare[s],
+            value: fvalue[s],
+        };
         if words::subsumes(idle, y) {
             j = pass(ycare, yvalue, j, m, idle);
-        } else {
+        } else if !words::subsumes(last, y) {
             match grow_keyed(care, value, &mut keys, k, l, y) {
                 Grown::Count(c) => {
                     k = c;
@@ -395,6 +410,8 @@ pub fn grow_each(
                 }
             }
             idle = wider(idle, y);
+            fcare[s] = y.care;
+            fvalue[s] = y.value;
         }
     }
     Grown::Count(k)
