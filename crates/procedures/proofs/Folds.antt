@@ -4,6 +4,8 @@ use mathlib.Core.Bool.{Bool, Bool·beq, true, false, cond}
 use mathlib.Core.List.{List, [], _∷_, _++_, map}
 use mathlib.Core.Option.{Option, some, none}
 use Prim.Native.Nat.{ℕ}
+use native.Mathlib.Omega.{arith}
+use lib.ListN.{length}
 use Rattle.model.specs.Groups.{Bits, or}
 use Rattle.model.specs.Strings.{Trit, t0, t1, t*, Trits, or-strings, or-digit, matches, zeros, ones, pieces}
 use Rattle.model.specs.Growth.{_>>=_, fold, Entries, grow, grow-all, widen-grow}
@@ -109,6 +111,27 @@ pieces-selected v (y ∷ τ) ρ = go (matches y v) (pieces-selected v τ)
 pub take-away-selected : (τ : Entries) (v : Trits) → take-away τ v ≡ fold (grow-pieces v) (selected false v τ) (selected true v τ)
 unfolding take-away
 take-away-selected τ v = rw (unmatched-selected v τ) (sym (pieces-selected v τ (selected false v τ)))
+
+-- where no entry matches, nothing is taken away
+none-selected : (v : Trits) (τ : Entries) → length (selected true v τ) ≡ 0 → selected false v τ ≡ τ
+unfolding selected
+none-selected v [] e = refl
+none-selected v (y ∷ τ) e = go (matches y v) e (none-selected v τ)
+  where
+    go : (b : Bool) → length (cond (Bool·beq b true) (y ∷ selected true v τ) (selected true v τ)) ≡ 0
+        → (length (selected true v τ) ≡ 0 → selected false v τ ≡ τ)
+        → cond (Bool·beq b false) (y ∷ selected false v τ) (selected false v τ) ≡ y ∷ τ
+    go true h f = absurd (omega arith)
+    go false h f = ap (λ (ρ : Entries). y ∷ ρ) (f h)
+
+no-entry : (ρ : Entries) → length ρ ≡ 0 → ρ ≡ []
+no-entry [] e = refl
+no-entry (s ∷ ρ) e = absurd (omega arith)
+
+pub take-away-none : (τ : Entries) (v : Trits) → length (selected true v τ) ≡ 0 → take-away τ v ≡ some τ
+unfolding fold
+take-away-none τ v e =
+    rw (take-away-selected τ v, no-entry (selected true v τ) e, none-selected v τ e)
 
 -- ---- Equations
 

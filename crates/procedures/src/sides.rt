@@ -129,6 +129,9 @@ fn take_away(care: &mut [u32; 256], value: &mut [u32; 256], n: usize, l: u32, v:
     let mut rcare = [0u32; 256];
     let mut rvalue = [0u32; 256];
     let m = candidates::select_row(care, value, n, v, true, &mut mcare, &mut mvalue);
+    if m == 0 {
+        return Grown::Count(n);
+    }
     let r = candidates::select_row(care, value, n, v, false, &mut rcare, &mut rvalue);
     *care = rcare;
     *value = rvalue;

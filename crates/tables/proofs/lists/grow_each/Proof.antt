@@ -119,7 +119,8 @@ returns : tie.Need-returns Inv-loop μ-loop
 returns c = (
   tt,
   λ τ ρ h y.
-      let lp = c .before .before .before .before .before .before .before .before .before .before .before .before .before .before .loop in
+      let midway = c .before .before .before .before .before .before .before in
+      let lp = midway .before .before .before .before .before .before .before .loop in
       let w = lp .inv .2 τ ρ h y .0 in
       let told = c .before .before .grow-keyed .ensures .1 _ (getD ρ (lp .j) []) (w .list) (holds-length y (lp .j) (omega arith))
       (holds-at y (lp .j) (omega arith)) (lp .inv .2 τ ρ h y .2) in
@@ -146,7 +147,9 @@ loop-less-2 c = search needs
 
 loop-again-2 : tie.Need-loop-again-2 Inv-loop μ-loop
 loop-again-2 c =
-    let lp = c .before .before .before .before .before .before .before .before .before .before .before .before .before .before .before .before .loop in
+    let midway = c .before .before .before .before .before .before .before .before in
+    let at-slot = midway .before .before .before .before in
+    let lp = midway .before .before .before .before .before .before .before .before .loop in
     let g = c .before .before .before .before .grow-keyed in
     let is = c .before .before .c .given .1 in (
       omega arith,
@@ -159,7 +162,7 @@ loop-again-2 c =
             toward-step _ grow ρ [] _ w (omega (arith, y .count)) (told .0) is,
             beside-step (getD ρ (lp .j) []) (told .0) is n at (lp .inv .2 τ ρ h y .1) (c .wider .ensures),
             keyed-step (g .last .1 .1 .0) told is,
-            filter-step (getD ρ (lp .j) []) (told .0) is n at (c .before .before .before .before .before .before .before .before .before .before .before .before .slot .ensures) (lp .inv .2 τ ρ h y .3),
+            filter-step (getD ρ (lp .j) []) (told .0) is n at (at-slot .slot .ensures) (lp .inv .2 τ ρ h y .3),
           ),
     )
 
