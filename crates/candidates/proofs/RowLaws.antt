@@ -1,22 +1,14 @@
 -- What the six rows hold at the end of their loops, and the tests and words that they are made with. Assumes nothing.
-use mathlib.Core.Path.{_≡_, refl, sym, ap}
+use mathlib.Core.Path.{_≡_, refl}
 use mathlib.Core.Bool.{Bool, Bool·beq, true, false, not, _&&_, cond}
 use mathlib.Core.List.{List, [], _∷_, _++_, map}
-use Prim.Native.Nat.{ℕ, zero, suc, _+_, _*_, _/_, _%_, _^_, _≤_, _<_}
-use native.Mathlib.Nat.{not-suc-le-zero, le-of-suc-le-suc, pow-suc}
+use Prim.Native.Nat.{ℕ, _≤_}
 use native.Mathlib.Omega.{arith}
-use lib.Arith.{digits-mod}
-use lib.Dec.{eqb}
-use lib.ListN.{length, getD, drop}
-use lib.Seq.{drop-cons}
+use lib.ListN.{length, getD}
 use Rattle.model.specs.Groups.{Bits}
 use Rattle.model.specs.Strings.{Trits, matches, meet, fixed, opposed, one-at, ones, pieces}
 use Rattle.model.specs.Growth.{Entries}
-use Rattle.model.specs.Tables.{Wide, meet-if, meets-with, meets-of}
-use Rattle.model.proofs.Candidates.{meets-of-wide}
-use Rattle.words.specs.declared.Entry.{Entry}
-use Rattle.words.specs.Words.{care-of, value-of, word, set-word}
-use Rattle.words.proofs.Codec.{bit-lt, bit-back, set-word-drop, stars-word}
+use Rattle.model.specs.Tables.{meet-if, meets-with}
 use Rattle.tables.specs.Lists.{Holds}
 use Rattle.candidates.specs.Rows.{selected}
 use Rattle.candidates.proofs.Filling.{Filling, fill-end, Along, along-end}
@@ -45,11 +37,6 @@ module _ {l : ℕ} {care value : List ℕ} {n : ℕ} {τ : Entries} (h : Holds l
   unfolding selected
   selected-end b v w all = along-end (λ y. Bool·beq (matches y v) b) (λ y. y) (selected b v) refl (λ y τ. refl) h w all
 
--- the meet of two matching strings has their length
-pub meet-length : (l : ℕ) (s r : Trits) → matches s r ≡ true → length s ≡ l → length r ≡ l → length (meet s r) ≡ l
-unfolding meets-of meets-with meet-if Wide
-meet-length l s r t d e = (rw t at (meets-of-wide l (s ∷ []) (r ∷ []) (d, tt) (e, tt))) .0
-
 -- ---- Along the positions
 
 module _ {l : ℕ} {ocare ovalue : List ℕ} {k i : ℕ} where
@@ -63,19 +50,3 @@ module _ {l : ℕ} {ocare ovalue : List ℕ} {k i : ℕ} where
       → Holds l ocare ovalue k (pieces s t)
   unfolding pieces
   pieces-end s t e w all = rw e (fill-end w all)
-
--- a position of a set is a bit of its word
-pub set-bit : (g : Bits) (i : ℕ) → i < length g → getD g i false ≡ eqb (set-word g / 2 ^ i % 2) 1
-unfolding set-word
-set-bit g i lt =
-    sym (rw (set-word-drop i g, drop-cons g i false lt, digits-mod (set-word (drop (suc i) g)) (bit-lt (getD g i false)))
-    (bit-back (getD g i false)))
-
--- the string with one 1 has that bit alone
-pub one-word : (l i : ℕ) → i < l → word (one-at l i) ≡ record { care = 2 ^ i; value = 2 ^ i }
-unfolding one-at care-of value-of
-one-word zero i lt = absurd (not-suc-le-zero lt)
-one-word (suc l) zero lt = ap (λ (e : Entry). record { care = e .care * 2 + 1; value = e .value * 2 + 1 }) (stars-word l)
-one-word (suc l) (suc i) lt =
-    let d : 2 ^ suc i ≡ 2 ^ i * 2 + 0 = omega (arith, pow-suc 2 i) in
-    rw d (ap (λ (e : Entry). record { care = e .care * 2 + 0; value = e .value * 2 + 0 }) (one-word l i (le-of-suc-le-suc lt)))

@@ -2,13 +2,12 @@
 use mathlib.Core.Bool.{Bool, true, false, not, _&&_, _||_, false≢true, cond, or-false, Bool·not-not}
 use mathlib.Core.List.{[], _∷_}
 use mathlib.Core.Path.{_≡_, refl, sym, ap, ap₂, _∙_}
-use Prim.Native.Nat.{ℕ, zero, suc, _+_, _-_, _*_, _/_, _%_, _^_, _<_, suc-le-suc, zero-le}
+use Prim.Native.Nat.{ℕ, zero, suc, _+_, _-_, _*_, _^_, _<_, suc-le-suc, zero-le}
 use native.Mathlib.Nat.{pow-suc, suc-inj, suc-ne-zero, not-suc-le-zero, le-of-suc-le-suc}
 use native.Mathlib.Omega.{arith}
-use lib.Arith.{digits-mod}
 use lib.Bits.{bitAnd, bitOr, bitXor, and-block, or-block, xor-block, and-zero-r, and-lt, xor-lt}
 use lib.Dec.{eqb, lit<}
-use lib.ListN.{length, getD, drop, replicate, length-replicate}
+use lib.ListN.{length, getD, replicate, length-replicate}
 use lib.Pow.{pow-pos}
 use Rattle.model.specs.Groups.{Bits, meets}
 use Rattle.model.specs.Strings.{Trit, t0, t1, t*, Trits, covers-digit, covers, one-at}
@@ -16,23 +15,12 @@ use Rattle.model.proofs.Positions.{stars-length}
 use Rattle.model.proofs.Strings.{stars-cover}
 use Rattle.words.specs.declared.Entry.{Entry}
 use Rattle.words.specs.Words.{care-bit, value-bit, care-of, value-of, word, set-word}
-use Rattle.words.proofs.Codec.{bit-lt, bit-back, set-word-drop, stars-word}
+use Rattle.words.proofs.Codec.{bit-lt, stars-word}
 use Rattle.words.proofs.Digits.{care-bit-lt, value-bit-lt, eqb-digit}
 use Rattle.covering.specs.Covering.{greatest-digit, greatest, first-string}
 use Rattle.covering.proofs.Every.{left, right}
 
 -- ---- A set and its word
-
-digit-at : (k : Bits) (i : ℕ) → eqb (set-word (drop i k) % 2) 1 ≡ getD k i false
-unfolding set-word
-digit-at [] zero = refl
-digit-at [] (suc i) = refl
-digit-at (b ∷ k) zero = ap (λ (x : ℕ). eqb x 1) (digits-mod (set-word k) (bit-lt b)) ∙ bit-back b
-digit-at (b ∷ k) (suc i) = digit-at k i
-
--- a position of a set is a bit of its word
-pub set-bit : (k : Bits) (i : ℕ) → eqb (set-word k / 2 ^ i % 2) 1 ≡ getD k i false
-set-bit k i = ap (λ (x : ℕ). eqb (x % 2) 1) (set-word-drop i k) ∙ digit-at k i
 
 pow-digit : (i : ℕ) → 2 ^ suc i ≡ 2 ^ i * 2 + 0
 pow-digit i = omega (arith, pow-suc 2 i)
@@ -75,15 +63,6 @@ only-meets (suc l) (suc i) [] h = refl
 only-meets (suc l) (suc i) (b ∷ g) h = only-meets l i g (le-of-suc-le-suc h)
 
 -- ---- The strings with one 1
-
--- as the code makes them
-pub one-word : (l i : ℕ) → i < l → record { care = 2 ^ i; value = 2 ^ i } ≡ word (one-at l i)
-unfolding one-at care-of value-of
-one-word zero i h = absurd (not-suc-le-zero h)
-one-word (suc l) zero h = sym (ap (λ (e : Entry). record { care = e .care * 2 + 1; value = e .value * 2 + 1 }) (stars-word l))
-one-word (suc l) (suc i) h =
-    rw (pow-digit i)
-    (ap (λ (e : Entry). record { care = e .care * 2 + 0; value = e .value * 2 + 0 }) (one-word l i (le-of-suc-le-suc h)))
 
 pub one-covers : (l i : ℕ) (g : Bits) → i < l → length g ≡ l → covers (one-at l i) g ≡ getD g i false
 unfolding covers one-at

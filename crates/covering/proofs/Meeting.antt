@@ -3,7 +3,7 @@ use mathlib.Core.Bool.{Bool, true, false, not, _&&_, _||_, false≢true, and-sel
 use mathlib.Core.List.{[], _∷_}
 use mathlib.Core.Path.{_≡_, refl, sym, ap, _∙_}
 use Prim.Native.Nat.{ℕ, zero, suc, _+_, _-_, _<_, _≤_}
-use native.Mathlib.Nat.{suc-inj, not-suc-le-zero}
+use native.Mathlib.Nat.{not-suc-le-zero}
 use native.Mathlib.Numerals.{add-one}
 use native.Mathlib.Omega.{arith}
 use lib.Dec.{T}
@@ -131,12 +131,6 @@ module _ (l : ℕ) (τ : Entries) (q : Bits → Bool) (k : Bits) where
       implied (q g && covers (first-string k (r .0)) g) (covered τ g)
       (group-at l _ (f (r .0) (omega (arith, set-inside k (r .0) (r .1))) (r .1)) g e z)
       (both (left (q g) _ c) (r .2))))
-
-pub meet-length : (s r : Trits) → length s ≡ length r → length (meet s r) ≡ length s
-unfolding meet
-meet-length [] r e = refl
-meet-length (t ∷ s) [] e = sym e
-meet-length (t ∷ s) (u ∷ r) e = ap suc (meet-length s r (suc-inj e))
 
 module _ (l : ℕ) (τ : Entries) (s : Trits) (k : Bits) where
   -- matching strings: what both cover is their meet

@@ -34,7 +34,7 @@ or-strings-length l (t ∷ s) [] d e = d
 or-strings-length zero (t ∷ s) (u ∷ r) d e = absurd (suc-ne-zero _ d)
 or-strings-length (suc l) (t ∷ s) (u ∷ r) d e = ap suc (or-strings-length l s r (suc-inj d) (suc-inj e))
 
-meet-length : (l : ℕ) (s r : Trits) → length s ≡ l → length r ≡ l → length (meet s r) ≡ l
+pub meet-length : (l : ℕ) (s r : Trits) → length s ≡ l → length r ≡ l → length (meet s r) ≡ l
 unfolding meet
 meet-length l [] r d e = d
 meet-length l (t ∷ s) [] d e = e

@@ -167,6 +167,17 @@ set-word-drop (suc i) (b ∷ g) =
     ∙ ap (λ (x : ℕ). x / 2 ^ i) (digits-div (set-word g) (bit-lt b))
     ∙ set-word-drop i g
 
+digit-at : (k : Bits) (i : ℕ) → eqb (set-word (drop i k) % 2) 1 ≡ getD k i false
+unfolding set-word
+digit-at [] zero = refl
+digit-at [] (suc i) = refl
+digit-at (b ∷ k) zero = ap (λ (x : ℕ). eqb x 1) (digits-mod (set-word k) (bit-lt b)) ∙ bit-back b
+digit-at (b ∷ k) (suc i) = digit-at k i
+
+-- a position of a set is a bit of its word
+pub set-bit : (k : Bits) (i : ℕ) → eqb (set-word k / 2 ^ i % 2) 1 ≡ getD k i false
+set-bit k i = ap (λ (x : ℕ). eqb (x % 2) 1) (set-word-drop i k) ∙ digit-at k i
+
 -- a word is 0 exactly where its set is empty
 pub nonzero-word : (g : Bits) → nonzero g ≡ not (eqb (set-word g) 0)
 unfolding nonzero set-word

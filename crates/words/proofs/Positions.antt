@@ -3,7 +3,7 @@ use mathlib.Core.Path.{_≡_, refl, sym, ap, ap₂, _∙_}
 use mathlib.Core.Bool.{true, false, false≢true, not, cond}
 use mathlib.Core.List.{[], _∷_}
 use Prim.Native.Nat.{ℕ, zero, suc, _+_, _*_, _%_, _^_, _<_}
-use native.Mathlib.Nat.{pow-suc}
+use native.Mathlib.Nat.{pow-suc, not-suc-le-zero, le-of-suc-le-suc}
 use native.Mathlib.Omega.{arith}
 use lib.Bits.{bitAnd, bitOr, bitXor, and-block, or-block, xor-block, and-zero-r, or-zero-r, xor-zero-r, and-lt, xor-lt}
 use lib.Count.{ones, ones-cat}
@@ -11,9 +11,11 @@ use lib.Dec.{lit<, eqb}
 use lib.ListN.{length}
 use lib.Pow.{shl-exact}
 use Rattle.model.specs.Strings.{Trit, t0, t1, t*, Trits, fixed-digit, flip, fixed, fixed-count, flipped, starred, opposed}
+use Rattle.model.specs.Strings.{one-at}
+use Rattle.words.specs.declared.Entry.{Entry}
 use Rattle.words.specs.Words.{care-bit, value-bit, care-of, value-of, word, fixed-words, flipped-words, starred-words}
 use Rattle.words.specs.Words.{opposed-words}
-use Rattle.words.proofs.Codec.{value-in, value-bit-in}
+use Rattle.words.proofs.Codec.{value-in, value-bit-in, stars-word}
 use Rattle.words.proofs.Digits.{care-bit-lt, value-bit-lt, eqb-digit}
 
 -- as `1 << i` comes into a goal
@@ -196,3 +198,13 @@ pub opposed-word : (i : ℕ) (v y : Trits) → length y ≡ length v → fixed i
     → opposed-words i (word v) (word y) ≡ word (opposed i v y)
 unfolding opposed-words turn
 opposed-word i v y n k h = λ j. record { care = oppose-care i v y n h j; value = oppose-value i v y n k h j }
+
+-- ---- One position fixed to 1: both words are that bit
+
+pub one-word : (l i : ℕ) → i < l → record { care = 2 ^ i; value = 2 ^ i } ≡ word (one-at l i)
+unfolding one-at care-of value-of
+one-word zero i h = absurd (not-suc-le-zero h)
+one-word (suc l) zero h = sym (ap (λ (e : Entry). record { care = e .care * 2 + 1; value = e .value * 2 + 1 }) (stars-word l))
+one-word (suc l) (suc i) h =
+    let d : 2 ^ suc i ≡ 2 ^ i * 2 + 0 = omega (arith, pow-suc 2 i) in
+    rw d (ap (λ (e : Entry). record { care = e .care * 2 + 0; value = e .value * 2 + 0 }) (one-word l i (le-of-suc-le-suc h)))

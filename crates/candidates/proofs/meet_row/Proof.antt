@@ -6,10 +6,11 @@ use native.Mathlib.Omega.{arith}
 use borrow.Author.Needs.{needs}
 use lib.ListN.{getD}
 use Rattle.model.specs.Strings.{matches, meet}
+use Rattle.model.proofs.Candidates.{meet-length}
 use Rattle.tables.specs.Lists.{Holds, OfString}
 use Rattle.tables.proofs.Arrays.{holds-at, holds-length}
 use Rattle.candidates.proofs.Filling.{Along, fill-start, fill-add, fill-pass}
-use Rattle.candidates.proofs.RowLaws.{meets-end, meet-length}
+use Rattle.candidates.proofs.RowLaws.{meets-end}
 use Rattle.candidates.proofs.meet_row.Statement.{statement}
 use Rattle.candidates.proofs.meet_row.Tie as tie
 
@@ -79,7 +80,7 @@ loop-again c =
           (λ v.
           rw (v .2, v .3, v .4)
           (fill-add p (omega arith) _ (t ∙ v .0 .taken) (v .1 .ensures .1 s r (e ∙ sym d) a is)
-          (meet-length l s r (t ∙ v .0 .taken) e d) (omega arith)))
+          (meet-length l s r e d) (omega arith)))
           (λ v. rw (v .1, v .2, v .3) (fill-pass p (omega arith) (t ∙ v .0 .left)))
           (c .if1 .came),
     )

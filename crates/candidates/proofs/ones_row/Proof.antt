@@ -11,10 +11,11 @@ use Rattle.model.specs.Groups.{Bits}
 use Rattle.model.specs.Strings.{one-at}
 use Rattle.model.proofs.Positions.{one-at-length}
 use Rattle.words.specs.Words.{set-word}
-use Rattle.words.proofs.Positions.{one-shl}
+use Rattle.words.proofs.Codec.{set-bit}
+use Rattle.words.proofs.Positions.{one-shl, one-word}
 use Rattle.tables.specs.Lists.{Holds}
 use Rattle.candidates.proofs.Filling.{Filling, fill-start, fill-add, fill-pass}
-use Rattle.candidates.proofs.RowLaws.{ones-end, set-bit, one-word}
+use Rattle.candidates.proofs.RowLaws.{ones-end}
 use Rattle.candidates.proofs.ones_row.Statement.{statement}
 use Rattle.candidates.proofs.ones_row.Tie as tie
 
@@ -64,12 +65,12 @@ loop-again c =
       omega arith,
       ⊎-elim (λ v. omega arith) (λ v. omega arith) (c .if1 .came),
       λ g e m o.
-          let t = rw (← m) at (set-bit g (w .i) (omega (arith, e))) in
+          let t = rw (← m) at (sym (set-bit g (w .i))) in
           let p = w .inv .2 g e m o in
           ⊎-elim
           (λ v.
           rw (v .1, v .2, v .3, one-shl (w .i) 32 (omega arith))
-          (fill-add p (omega arith) _ (t ∙ eq-eqb _ 1 (v .0 .taken)) (sym (one-word l (w .i) (omega arith)))
+          (fill-add p (omega arith) _ (t ∙ eq-eqb _ 1 (v .0 .taken)) (one-word l (w .i) (omega arith))
           (one-at-length l (w .i)) (omega arith)))
           (λ v. rw (v .1, v .2, v .3) (fill-pass p (omega arith) (t ∙ ne-eqb _ 1 (v .0 .left))))
           (c .if1 .came),

@@ -6,11 +6,12 @@ use native.Mathlib.Omega.{arith}
 use lib.ListN.{length, getD}
 use Rattle.model.specs.Groups.{Bits}
 use Rattle.model.specs.Strings.{covers}
+use Rattle.model.proofs.Candidates.{meet-length}
 use Rattle.words.specs.Words.{set-word}
 use Rattle.tables.specs.Lists.{OfString}
 use Rattle.covering.specs.Covering.{first-string}
 use Rattle.covering.proofs.Firsts.{first-length}
-use Rattle.covering.proofs.Meeting.{part, part-meet, part-none, meet-length, apart-no, apart-all}
+use Rattle.covering.proofs.Meeting.{part, part-meet, part-none, apart-no, apart-all}
 use borrow.Author.Count.{below-more}
 use borrow.Author.Needs.{needs}
 use borrow.Author.Tests.{not-true, not-false}
@@ -55,7 +56,8 @@ returns c τ s h e d k n b =
     let m = sym (c .before .before .before .before .matches .ensures .1 s _ same d z) ∙ c .before .before .before .if2 .taken in
     apart-no _ τ s k j (sym (at-set .in-set .ensures k b) ∙ at-first .before .if1 .taken)
     (sym (part-meet _ τ s k j m)
-    ∙ sym (c .before .covered .ensures τ _ h (meet-length s _ same ∙ e) (c .before .before .meet .ensures .1 s _ same d z))
+    ∙ sym (c .before .covered .ensures τ _ h (meet-length _ s _ e (sym same ∙ e))
+    (c .before .before .meet .ensures .1 s _ same d z))
     ∙ not-true _ (c .if3 .taken))
 
 add-j : tie.Need-add-j Inv-loop μ-loop
@@ -79,7 +81,7 @@ loop-again c = (
       let z = p .1 .ensures k here few b in
       let m = sym (p .2 .ensures .1 s _ same d z) ∙ p .3 .taken in
       sym (part-meet _ τ s k j m)
-      ∙ sym (p .5 .ensures τ _ h (meet-length s _ same ∙ e) (p .4 .ensures .1 s _ same d z))
+      ∙ sym (p .5 .ensures τ _ h (meet-length _ s _ e (sym same ∙ e)) (p .4 .ensures .1 s _ same d z))
       ∙ not-false _ (p .6 .left))
       (⊎-elim {C = part l τ (covers s) k j ≡ true}
       (λ p. part-none _ τ s k j (sym (p .2 .ensures .1 s _ same d (p .1 .ensures k here few b)) ∙ p .3 .left))

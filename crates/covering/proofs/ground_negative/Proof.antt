@@ -3,7 +3,7 @@ use Prim.Native.Nat.{_-_}
 use native.Mathlib.Omega.{arith}
 use Rattle.model.proofs.Positions.{one-at-length}
 use Rattle.words.proofs.Positions.{one-shl}
-use Rattle.covering.proofs.Firsts.{one-word}
+use Rattle.words.proofs.Positions.{one-word}
 use Rattle.covering.proofs.Meeting.{ground-one}
 use borrow.Author.Needs.{needs}
 use Rattle.covering.proofs.ground_negative.Statement.{statement}

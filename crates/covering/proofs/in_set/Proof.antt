@@ -1,4 +1,4 @@
-use Rattle.covering.proofs.Firsts.{set-bit}
+use Rattle.words.proofs.Codec.{set-bit}
 use borrow.Author.Needs.{needs}
 use Rattle.covering.proofs.in_set.Statement.{statement}
 use Rattle.covering.proofs.in_set.Tie as tie
