@@ -28,17 +28,6 @@ use Rattle.terms.specs.Checks as C
 use Rattle.terms.specs.Checks.{check-equation, check-term, checked}
 use Rattle.sharing.specs.Calls.{good-keep}
 
--- ---- The table of a working list
-
-module _ {l : ℕ} {care value : List ℕ} {g : Grown} {o : Option Entries} (told : Makes l care value g o) (t : Table) where
-  pub made-table : {n : ℕ} → g ≡ Count n → accepts (record { l = l; n = n; care = care; value = value }) ≡ made-or-full l t o
-  unfolding made-or-full
-  made-table e = let m = makes-count told e in rw (m .1) (ap accepts (table-is (m .2)))
-
-  pub full-table : g ≡ Full → refuses R.Full t ≡ made-or-full l t o
-  unfolding made-or-full
-  full-table e = rw (makes-full told e)
-
 -- ---- A good table
 
 module _ {t : Table} (g : GoodTable t) where

@@ -12,14 +12,13 @@ use tables::lists::Grown;
 use terms::Checked;
 ghost use mathlib.Core.Path.{_≡_};
 ghost use mathlib.Core.List.{List, []};
-ghost use mathlib.Core.Option.{Option};
 ghost use Prim.Native.Nat.{ℕ, _≤_, _<_};
 ghost use lib.ListN.{length};
 ghost use Rattle.model.specs.Groups.{Bits};
 ghost use Rattle.model.specs.Growth.{Entries};
 ghost use Rattle.model.specs.Tables.{equation-of-sets, join as join-lists, kept, projection};
 ghost use Rattle.words.specs.Words.{set-word};
-ghost use Rattle.tables.specs.Lists.{Holds, Within, Makes};
+ghost use Rattle.tables.specs.Lists.{Holds, Makes};
 ghost use Rattle.tables.specs.Values.{refuses, made-or-full, GoodTable, entries-of};
 ghost use Rattle.procedures.specs.Parts.{OfSets};
 ghost use Rattle.sharing.specs.Calls.{side-of, side-told, equation-call, join-call, projection-call, change-side-call};
@@ -40,33 +39,13 @@ pub fn side_numbered(number: u32) -> Side
     Side::Negative
 }
 
-// A refusal, with the table that is returned.
-fn refused(r: Refusal, t: Table) -> Answered
+// A refusal, with the table that is returned. Inner: not a public call.
+pub fn refused(r: Refusal, t: Table) -> Answered
     ensures { λ a. ⌜ a ≡ refuses r t ⌝ }
 {
     Answered {
         answer: Answer::Refused(r),
         table: t,
-    }
-}
-
-// The table of a working list of strings of l positions; 8 where there is none, with the table that is then returned.
-fn answered(l: u32, t: Table, g: Grown, care: &[u32; 256], value: &[u32; 256]) -> Answered
-    ensures { λ r. ⌜
-        ((o : Option Entries) → Makes l (now (care .entry)) (now (value .entry)) g o → r ≡ made-or-full l t o)
-        ⌝ }
-{
-    match g {
-        Grown::Count(n) => Answered {
-            answer: Answer::Accepted,
-            table: Table {
-                l: l,
-                n: n,
-                care: *care,
-                value: *value,
-            },
-        },
-        Grown::Full => refused(Refusal::Full, t),
     }
 }
 
@@ -110,7 +89,7 @@ fn equate(side: Side, t: Table, mx: u32, mt: u32) -> Answered
     let mut care = [0u32; 256];
     let mut value = [0u32; 256];
     let g = equation_list(side, &tcare, &tvalue, n, l, mx, mt, &mut care, &mut value);
-    answered(l, t, g, &care, &value)
+    tables::made_or_full(l, t, g, &care, &value)
 }
 
 // The equation Xx = the term of the tokens.
@@ -187,7 +166,7 @@ fn unite(side: Side, t: Table, u: Table) -> Answered
         &mut care,
         &mut value,
     );
-    answered(l, t, g, &care, &value)
+    tables::made_or_full(l, t, g, &care, &value)
 }
 
 // The join of two tables of one side.
@@ -250,7 +229,7 @@ pub fn project(side: Side, t: Table, keep: u32) -> Answered
             let mut care = [0u32; 256];
             let mut value = [0u32; 256];
             let g = projection_list(side, &tcare, &tvalue, n, l, keep, &mut care, &mut value);
-            answered(u32::count_ones(keep), t, g, &care, &value)
+            tables::made_or_full(u32::count_ones(keep), t, g, &care, &value)
         }
     }
 }
@@ -269,7 +248,7 @@ pub fn change_side(side: Side, t: Table) -> Answered
             let mut care = [0u32; 256];
             let mut value = [0u32; 256];
             let g = sides::change_side(&tcare, &tvalue, n, l, &mut care, &mut value);
-            answered(l, t, g, &care, &value)
+            tables::made_or_full(l, t, g, &care, &value)
         }
     }
 }

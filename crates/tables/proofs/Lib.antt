@@ -10,3 +10,4 @@ pub mod Checking
 pub mod Idle
 pub mod Passing
 pub mod Keyed
+pub mod Answering

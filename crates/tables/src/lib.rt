@@ -6,10 +6,13 @@ use lists::Grown;
 ghost use mathlib.Core.Path.{_≡_};
 ghost use mathlib.Core.Bool.{cond};
 ghost use mathlib.Core.List.{[], _∷_};
+ghost use mathlib.Core.Option.{Option};
 ghost use Rattle.model.specs.Strings.{stars};
+ghost use Rattle.model.specs.Growth.{Entries};
+ghost use Rattle.tables.specs.Lists.{Makes};
 ghost use Rattle.tables.specs.Refusals.{refusal-number, answer-number};
 ghost use Rattle.tables.specs.Values.{zeros-of, zero-table, accepts, refuses, good-width, check-table, GoodTable, of-width};
-ghost use Rattle.tables.specs.Values.{convert-call};
+ghost use Rattle.tables.specs.Values.{made-or-full, convert-call};
 
 // A table value: l variables, n entries in order, and zeros past the count. Bit i - 1 of a word is for Xi.
 #[repr(C)]
@@ -135,13 +138,37 @@ fn of_zeros(l: u32, n: usize) -> Answered
     }
 }
 
-// A refusal where no table value came in.
-fn refused(r: Refusal) -> Answered
+// A refusal where no table value came in. Inner: not a public call.
+pub fn refused(r: Refusal) -> Answered
     ensures { λ a. ⌜ a ≡ refuses r zero-table ⌝ }
 {
     Answered {
         answer: Answer::Refused(r),
         table: Table::zero(),
+    }
+}
+
+// The table of a working list of strings of l positions; 8 where there is none, with the table that is then returned. Inner:
+// not a public call.
+pub fn made_or_full(l: u32, t: Table, g: Grown, care: &[u32; 256], value: &[u32; 256]) -> Answered
+    ensures { λ r. ⌜
+        ((o : Option Entries) → Makes l (now (care .entry)) (now (value .entry)) g o → r ≡ made-or-full l t o)
+        ⌝ }
+{
+    match g {
+        Grown::Count(n) => Answered {
+            answer: Answer::Accepted,
+            table: Table {
+                l: l,
+                n: n,
+                care: *care,
+                value: *value,
+            },
+        },
+        Grown::Full => Answered {
+            answer: Answer::Refused(Refusal::Full),
+            table: t,
+        },
     }
 }
 
@@ -181,16 +208,6 @@ pub fn convert(l: u32, words: &[u32]) -> Answered
     }
     let mut care = [0u32; 256];
     let mut value = [0u32; 256];
-    match lists::convert(&mut care, &mut value, l, words) {
-        Grown::Count(n) => Answered {
-            answer: Answer::Accepted,
-            table: Table {
-                l: l,
-                n: n,
-                care: care,
-                value: value,
-            },
-        },
-        Grown::Full => refused(Refusal::Full),
-    }
+    let g = lists::convert(&mut care, &mut value, l, words);
+    made_or_full(l, Table::zero(), g, &care, &value)
 }

@@ -26,8 +26,8 @@ change-side-requires c κs =
     let g = at-check .check .ensures .1 .0 (at-enum-told .enum-told .given .1) in
     (good-few g, good-wide g)
 
-answered-requires : tie.Need-answered-requires
-answered-requires c κs = search needs
+made-or-full-requires : tie.Need-made-or-full-requires
+made-or-full-requires c κs = search needs
 
 returns : tie.Need-returns
 unfolding change-side-call after-check
@@ -44,10 +44,10 @@ returns-2 c =
     let at-check = at-enum-told .before .before in
     let g = at-check .check .ensures .1 .0 (at-enum-told .enum-told .given .1) in
     rw (sym (at-check .check .ensures .0) ∙ at-enum-told .enum-told .given .1)
-    (c .answered .ensures _ (at-change-side .change-side .ensures .1 _ (good-holds g) (holds-empty _)))
+    (c .made-or-full .ensures _ (at-change-side .change-side .ensures .1 _ (good-holds g) (holds-empty _)))
 
 pub change-side-spec : {M : Type 1} → statement M
 change-side-spec =
     tie.close
     (tie.spec
-    check-requires enum-known-r refused-requires enum-told change-side-requires answered-requires returns returns-2)
+    check-requires enum-known-r refused-requires enum-told change-side-requires made-or-full-requires returns returns-2)

@@ -8,15 +8,15 @@ use Rattle.sharing.proofs.equate.Tie as tie
 equation-list-requires : tie.Need-equation-list-requires
 equation-list-requires c κs = let g = c .before .before .before .before .before .before .pre in (good-few g, good-wide g)
 
-answered-requires : tie.Need-answered-requires
-answered-requires c κs = search needs
+made-or-full-requires : tie.Need-made-or-full-requires
+made-or-full-requires c κs = search needs
 
 returns : tie.Need-returns
 returns c =
     let at-equation-list = c .before .before .before in
     let start = at-equation-list .before .before .before .before .before .before .before in
-    λ x y ex ey ix iy. c .answered .ensures _
+    λ x y ex ey ix iy. c .made-or-full .ensures _
     (at-equation-list .equation-list .ensures _ x y (good-holds (start .pre)) ex ey ix iy (holds-empty _))
 
 pub equate-spec : {M : Type 1} → statement M
-equate-spec = tie.close (tie.spec equation-list-requires answered-requires returns)
+equate-spec = tie.close (tie.spec equation-list-requires made-or-full-requires returns)

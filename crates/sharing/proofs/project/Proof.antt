@@ -53,8 +53,8 @@ projection-list-requires c κs =
     let g = at-check .check .ensures .1 .0 (at-enum-told .enum-told .given .1) in
     (good-few g, good-wide g)
 
-answered-requires : tie.Need-answered-requires
-answered-requires c κs = search needs
+made-or-full-requires : tie.Need-made-or-full-requires
+made-or-full-requires c κs = search needs
 
 returns-2 : tie.Need-returns-2
 unfolding projection-call after-check projected
@@ -76,11 +76,11 @@ returns-3 c =
     let below = set-word-set _ _ (keep-below _ _ k) in
     let told = at-projection-list .projection-list .ensures _ _ (good-holds g) (set-length _ _) (sym below) (holds-empty _) in
     rw (sym (at-check .check .ensures .0) ∙ at-enum-told .enum-told .given .1, k)
-    (rw (ap ones (sym below) ∙ kept-ones _) at (c .answered .ensures) _ told)
+    (rw (ap ones (sym below) ∙ kept-ones _) at (c .made-or-full .ensures) _ told)
 
 pub project-spec : {M : Type 1} → statement M
 project-spec =
     tie.close
     (tie.spec
     check-requires enum-known-r refused-requires enum-told full-requires refused-requires-2 returns
-    projection-list-requires answered-requires returns-2 returns-3)
+    projection-list-requires made-or-full-requires returns-2 returns-3)

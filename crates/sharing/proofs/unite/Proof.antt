@@ -10,16 +10,16 @@ join-list-requires c κs =
     let start = c .before .before .before .before .before .before .before .before .before .before in
     let g = start .pre in (good-few (g .0), good-few (g .1), good-wide (g .0))
 
-answered-requires : tie.Need-answered-requires
-answered-requires c κs = search needs
+made-or-full-requires : tie.Need-made-or-full-requires
+made-or-full-requires c κs = search needs
 
 returns : tie.Need-returns
 returns c =
     let at-join-list = c .before .before .before in
     let start = at-join-list .before .before .before .before .before .before .before .before .before .before .before in
     let g = start .pre in
-    c .answered .ensures _
+    c .made-or-full .ensures _
     (at-join-list .join-list .ensures _ _ (good-holds (g .0)) (good-of-width (g .1) (g .2)) (holds-empty _))
 
 pub unite-spec : {M : Type 1} → statement M
-unite-spec = tie.close (tie.spec join-list-requires answered-requires returns)
+unite-spec = tie.close (tie.spec join-list-requires made-or-full-requires returns)

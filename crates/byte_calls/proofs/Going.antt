@@ -1,0 +1,93 @@
+-- How a call goes on after its parts: one law for each way. Assumes nothing.
+use mathlib.Core.Path.{_≡_, refl, sym, ap, _∙_}
+use mathlib.Core.Bool.{Bool, true, false, cond}
+use mathlib.Core.List.{List}
+use Prim.Native.Nat.{ℕ, _+_, _*_, _/_, _%_, _≤_}
+use native.Mathlib.Omega.{arith}
+use borrow.Author.Tests.{leb-true}
+use lib.Dec.{leb}
+use lib.ListN.{length, take}
+use lib.Seq.{take-at}
+use Rattle.model.specs.Tables.{Side}
+use Rattle.tables.specs.declared.Table.{Table}
+use Rattle.tables.specs.declared.Refusal.{Refusal}
+use Rattle.tables.specs.declared.Answer.{Answer}
+use Rattle.tables.specs.declared.Answer.the-variants.{Accepted, Refused}
+use Rattle.tables.specs.declared.Answered.{Answered}
+use Rattle.tables.specs.Refusals.{refusal-number, answer-number}
+use Rattle.tables.specs.Values.{zero-table, refuses, check-table}
+use Rattle.terms.specs.Checks.{most-tokens}
+use Rattle.sharing.specs.Calls.{after-check, equation-call}
+use Rattle.questions.specs.declared.Reply.{Reply}
+use Rattle.questions.specs.declared.Reply.the-variants as Q
+use Rattle.questions.specs.Replies as Replies
+use Rattle.codec.specs.Numbers.{numbers, with-zeros}
+use Rattle.codec.proofs.Laws.{length-numbers}
+use Rattle.forms.specs.declared.Extent.the-variants.{Whole}
+use Rattle.forms.specs.Tables.{read-table, table-form, write-answer, written}
+use Rattle.byte_calls.specs.Calls.{check-bytes, tokens-of, term-call, after-read, ask-read, put-checked, put-answer, put-number}
+use Rattle.byte_calls.specs.Calls.{put-bytes}
+
+-- ---- After a table was read
+
+module _ (b : List ℕ) {a : Answered} (told : a ≡ read-table Whole b) where
+  answer-told : {x : Answer} → a .answer ≡ x → read-table Whole b .answer ≡ x
+  answer-told e = ap (λ (y : Answered). y .answer) (sym told) ∙ e
+
+  module _ (go : Table → Answered) where
+    pub read-refused : {r : Refusal} → a .answer ≡ Refused r → refuses r zero-table ≡ after-read b go
+    unfolding after-read after-check
+    read-refused e = rw (answer-told e)
+
+    pub read-went : a .answer ≡ Accepted → go (a .table) ≡ after-read b go
+    unfolding after-read after-check
+    read-went e = rw (answer-told e) (ap (λ (y : Answered). go (y .table)) told)
+
+  module _ (ask : Table → Reply) where
+    pub ask-refused : {r : Refusal} → a .answer ≡ Refused r → Q.Refused r ≡ ask-read b ask
+    unfolding ask-read Replies.after-check
+    ask-refused e = rw (answer-told e)
+
+    pub ask-went : a .answer ≡ Accepted → ask (a .table) ≡ ask-read b ask
+    unfolding ask-read Replies.after-check
+    ask-went e = rw (answer-told e) (ap (λ (y : Answered). ask (y .table)) told)
+
+-- ---- A term as bytes
+
+pub bytes-few : (b : List ℕ) → check-bytes b ≡ Accepted → length b / 2 ≤ 1024
+unfolding check-bytes
+bytes-few b e = go (leb (length b / 2) most-tokens) refl
+  where
+    go : (p : Bool) → leb (length b / 2) most-tokens ≡ p → length b / 2 ≤ 1024
+    go true h = leb-true (length b / 2) 1024 h
+    go false h = absurd (let z : _≡_ {A = ℕ} 0 1 = cc in omega arith)
+
+module _ (side : Side) (t : Table) (x : ℕ) (b : List ℕ) where
+  pub term-stray : {r : Refusal} → check-table t ≡ Refused r → refuses r t ≡ term-call side t x b
+  unfolding term-call after-check
+  term-stray e = rw e
+
+  module _ (good : check-table t ≡ Accepted) where
+    pub term-refused : {r : Refusal} → check-bytes b ≡ Refused r → refuses r t ≡ term-call side t x b
+    unfolding term-call after-check
+    term-refused e = rw (good, e)
+
+    -- the code takes the tokens from the array that they were read into
+    pub term-went : check-bytes b ≡ Accepted → {row : List ℕ} → row ≡ with-zeros most-tokens (numbers (length b / 2) b)
+        → equation-call side t x (take (length b / 2) row) ≡ term-call side t x b
+    unfolding term-call after-check tokens-of with-zeros
+    term-went e filled =
+        rw (good, e, filled)
+        (ap (equation-call side t x) (take-at (numbers (length b / 2) b) _ (length b / 2) (length-numbers (length b / 2) b)))
+
+-- ---- What is handed back
+
+module _ (a : Answered) (out : List ℕ) where
+  pub put-refused : {r : Refusal} → a .answer ≡ Refused r → (refusal-number r ≡ put-number a out) × (out ≡ put-bytes a out)
+  unfolding put-number put-bytes put-answer put-checked written
+  put-refused e = (rw e, rw e)
+
+  pub put-went : {w : Answer} {out′ : List ℕ} → a .answer ≡ Accepted → w ≡ write-answer (a .table) (length out)
+      → out′ ≡ written w (table-form (a .table)) out → (answer-number w ≡ put-number a out) × (out′ ≡ put-bytes a out)
+  unfolding put-number put-bytes put-answer put-checked
+  put-went e wrote same = (rw (e, wrote), same ∙ rw (e, wrote))

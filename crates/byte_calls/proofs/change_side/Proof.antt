@@ -1,0 +1,33 @@
+use mathlib.Core.Path.{_∙_}
+use borrow.Author.Needs.{needs}
+use Rattle.sharing.specs.Calls.{side-of, change-side-call}
+use Rattle.byte_calls.specs.Calls.{change-side-bytes}
+use Rattle.byte_calls.proofs.Going.{read-refused, read-went}
+use Rattle.byte_calls.proofs.change_side.Statement.{statement}
+use Rattle.byte_calls.proofs.change_side.Tie as tie
+
+read-table-requires : tie.Need-read-table-requires
+read-table-requires c κs = search needs
+
+enum-known-answer : tie.Need-enum-known-answer
+enum-known-answer c = search needs
+
+refused-requires : tie.Need-refused-requires
+refused-requires c κs = search needs
+
+enum-told : tie.Need-enum-told
+enum-told c = search needs
+
+change-side-requires : tie.Need-change-side-requires
+change-side-requires c κs = search needs
+
+returns : tie.Need-returns
+unfolding change-side-bytes
+returns c = c .refused .ensures ∙ read-refused (c .before .before .before .before .before .before .before .args .b .now) (c .before .before .before .before .before .read-table .ensures) (change-side-call (side-of (c .before .before .before .before .before .before .before .args .side))) (c .before .before .answer .given .1)
+
+returns-2 : tie.Need-returns-2
+unfolding change-side-bytes
+returns-2 c = c .change-side .ensures ∙ read-went (c .before .before .before .before .before .before .args .b .now) (c .before .before .before .before .read-table .ensures) (change-side-call (side-of (c .before .before .before .before .before .before .args .side))) (c .before .enum-told .given .1)
+
+pub change-side-spec : {M : Type 1} → statement M
+change-side-spec = tie.close (tie.spec read-table-requires enum-known-answer refused-requires enum-told change-side-requires returns returns-2)

@@ -1,0 +1,48 @@
+use mathlib.Core.Path.{_∙_}
+use borrow.Author.Needs.{needs}
+use Rattle.questions.specs.Replies.{equal-call}
+use Rattle.byte_calls.specs.Calls.{ask-read, equal-bytes}
+use Rattle.byte_calls.proofs.Going.{ask-refused, ask-went}
+use Rattle.byte_calls.proofs.equal.Statement.{statement}
+use Rattle.byte_calls.proofs.equal.Tie as tie
+
+read-table-requires : tie.Need-read-table-requires
+read-table-requires c κs = search needs
+
+enum-known-answer : tie.Need-enum-known-answer
+enum-known-answer c = search needs
+
+enum-told : tie.Need-enum-told
+enum-told c = search needs
+
+read-table-requires-2 : tie.Need-read-table-requires-2
+read-table-requires-2 c κs = search needs
+
+enum-known-other : tie.Need-enum-known-other
+enum-known-other c = search needs
+
+enum-told-2 : tie.Need-enum-told-2
+enum-told-2 c = search needs
+
+equal-requires : tie.Need-equal-requires
+equal-requires c κs = search needs
+
+returns : tie.Need-returns
+unfolding equal-bytes
+returns c = ask-refused (c .before .before .before .before .before .before .before .args .b .now) (c .before .before .before .before .read-table .ensures) (λ t. ask-read (c .before .before .before .before .before .before .before .args .c .now) (equal-call t)) (c .before .answer .given .1)
+
+returns-2 : tie.Need-returns-2
+unfolding equal-bytes
+returns-2 c =
+    ask-refused (c .before .before .before .before .before .before .before .before .before .before .before .args .c .now) (c .before .before .before .before .read-table2 .ensures) (equal-call _) (c .before .other .given .1)
+    ∙ ask-went (c .before .before .before .before .before .before .before .before .before .before .before .args .b .now) (c .before .before .before .before .before .before .before .before .read-table .ensures) (λ t. ask-read (c .before .before .before .before .before .before .before .before .before .before .before .args .c .now) (equal-call t)) (c .before .before .before .before .before .enum-told .given .1)
+
+returns-3 : tie.Need-returns-3
+unfolding equal-bytes
+returns-3 c =
+    c .equal .ensures
+    ∙ ask-went (c .before .before .before .before .before .before .before .before .before .before .before .args .c .now) (c .before .before .before .before .read-table2 .ensures) (equal-call _) (c .before .enum-told2 .given .1)
+    ∙ ask-went (c .before .before .before .before .before .before .before .before .before .before .before .args .b .now) (c .before .before .before .before .before .before .before .before .read-table .ensures) (λ t. ask-read (c .before .before .before .before .before .before .before .before .before .before .before .args .c .now) (equal-call t)) (c .before .before .before .before .before .enum-told .given .1)
+
+pub equal-spec : {M : Type 1} → statement M
+equal-spec = tie.close (tie.spec read-table-requires enum-known-answer enum-told read-table-requires-2 enum-known-other enum-told-2 equal-requires returns returns-2 returns-3)

@@ -1,0 +1,31 @@
+use mathlib.Core.Path.{_∙_}
+use borrow.Author.Needs.{needs}
+use Rattle.sharing.specs.Calls.{side-of}
+use Rattle.questions.specs.Replies.{ground-call}
+use Rattle.byte_calls.specs.Calls.{ground-bytes}
+use Rattle.byte_calls.proofs.Going.{ask-refused, ask-went}
+use Rattle.byte_calls.proofs.ground.Statement.{statement}
+use Rattle.byte_calls.proofs.ground.Tie as tie
+
+read-table-requires : tie.Need-read-table-requires
+read-table-requires c κs = search needs
+
+enum-known-answer : tie.Need-enum-known-answer
+enum-known-answer c = search needs
+
+enum-told : tie.Need-enum-told
+enum-told c = search needs
+
+ground-requires : tie.Need-ground-requires
+ground-requires c κs = search needs
+
+returns : tie.Need-returns
+unfolding ground-bytes
+returns c = ask-refused (c .before .before .before .before .before .before .args .b .now) (c .before .before .before .before .read-table .ensures) (λ t. ground-call (side-of (c .before .before .before .before .before .before .args .side)) t (c .before .before .before .before .before .before .args .x)) (c .before .answer .given .1)
+
+returns-2 : tie.Need-returns-2
+unfolding ground-bytes
+returns-2 c = c .ground .ensures ∙ ask-went (c .before .before .before .before .before .before .args .b .now) (c .before .before .before .before .read-table .ensures) (λ t. ground-call (side-of (c .before .before .before .before .before .before .args .side)) t (c .before .before .before .before .before .before .args .x)) (c .before .enum-told .given .1)
+
+pub ground-spec : {M : Type 1} → statement M
+ground-spec = tie.close (tie.spec read-table-requires enum-known-answer enum-told ground-requires returns returns-2)

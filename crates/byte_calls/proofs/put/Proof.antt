@@ -1,0 +1,31 @@
+use borrow.Author.Needs.{needs}
+use Rattle.byte_calls.proofs.Going.{put-refused, put-went}
+use Rattle.byte_calls.proofs.put.Statement.{statement}
+use Rattle.byte_calls.proofs.put.Tie as tie
+
+enum-known-answer : tie.Need-enum-known-answer
+enum-known-answer c = search needs
+
+refusal-number-requires : tie.Need-refusal-number-requires
+refusal-number-requires c κs = search needs
+
+enum-told : tie.Need-enum-told
+enum-told c = search needs
+
+write-table-requires : tie.Need-write-table-requires
+write-table-requires c κs = search needs
+
+answer-number-requires : tie.Need-answer-number-requires
+answer-number-requires c κs = search needs
+
+returns : tie.Need-returns
+returns c = rw (c .refusal-number .ensures) (put-refused (c .before .before .before .before .before .before .args .a) (c .before .before .before .before .before .before .args .out .now) (c .before .before .answer .given .1))
+
+same-length : tie.Need-same-length
+same-length c = search needs
+
+returns-2 : tie.Need-returns-2
+returns-2 c = rw (c .answer-number .ensures) (put-went (c .before .before .before .before .before .before .before .before .before .args .a) (c .before .before .before .before .before .before .before .before .before .args .out .now) (c .before .before .before .before .before .enum-told .given .1) (c .before .before .before .write-table .ensures .0) (c .before .before .before .write-table .ensures .1))
+
+pub put-spec : {M : Type 1} → statement M
+put-spec = tie.close (tie.spec enum-known-answer refusal-number-requires enum-told write-table-requires answer-number-requires returns same-length returns-2)

@@ -1,0 +1,109 @@
+-- The calls on byte buffers (01, "Written form" and "Refusals"): the first table's checks, the second's, the equation's or the
+-- question's own, then 8, then 9. A refusal leaves every byte.
+use mathlib.Core.Bool.{cond}
+use mathlib.Core.List.{List}
+use Prim.Native.Nat.{ℕ, _/_, _%_}
+use lib.Dec.{leb, eqb}
+use lib.ListN.{length}
+use Rattle.model.specs.Tables.{Side}
+use Rattle.tables.specs.declared.Table.{Table}
+use Rattle.tables.specs.declared.Refusal.the-variants as R
+use Rattle.tables.specs.declared.Answer.{Answer}
+use Rattle.tables.specs.declared.Answer.the-variants.{Accepted, Refused}
+use Rattle.tables.specs.declared.Answered.{Answered}
+use Rattle.tables.specs.Refusals.{refusal-number, answer-number}
+use Rattle.tables.specs.Values.{zero-table, check-table}
+use Rattle.terms.specs.Checks.{most-tokens}
+use Rattle.sharing.specs.Calls.{after-check, equation-call, join-call, projection-call, change-side-call}
+use Rattle.questions.specs.declared.Reply.{Reply}
+use Rattle.questions.specs.declared.Reply.the-variants as Q
+use Rattle.questions.specs.Replies.{equal-call, ground-call, independent-call}
+use Rattle.questions.specs.Replies as Replies
+use Rattle.codec.specs.Numbers.{numbers}
+use Rattle.forms.specs.declared.Extent.the-variants.{Whole}
+use Rattle.forms.specs.Tables.{read-table, table-form, write-answer, written}
+
+-- ---- A term as bytes
+
+-- 7 where half the length, rounded down, is above 1024; 1 where the length is odd.
+unfoldable pub check-bytes : List ℕ → Answer
+check-bytes b =
+    cond (leb (length b / 2) most-tokens) (cond (eqb (length b % 2) 0) Accepted (Refused R.Torn)) (Refused R.Long)
+
+-- The tokens that are written.
+unfoldable pub tokens-of : List ℕ → List ℕ
+tokens-of b = numbers (length b / 2) b
+
+-- An equation with its term as bytes, on a table value: 2, 3, 4 of the table; 7, 1 of the bytes; then as on tokens.
+unfoldable pub term-call : Side → Table → ℕ → List ℕ → Answered
+term-call side t x b =
+    after-check (check-table t) t (after-check (check-bytes b) t (equation-call side t x (tokens-of b)))
+
+-- ---- Tables as bytes
+
+-- Where the bytes read as a table, the call goes on with it; else it is refused.
+unfoldable pub after-read : List ℕ → (Table → Answered) → Answered
+after-read b go = after-check (read-table Whole b .answer) zero-table (go (read-table Whole b .table))
+
+-- The same of a question.
+unfoldable pub ask-read : List ℕ → (Table → Reply) → Reply
+ask-read b ask = Replies.after-check (read-table Whole b .answer) (ask (read-table Whole b .table))
+
+-- Change of side.
+unfoldable pub change-side-bytes : Side → List ℕ → Answered
+change-side-bytes side b = after-read b (change-side-call side)
+
+-- One equation.
+unfoldable pub equation-bytes : Side → List ℕ → ℕ → List ℕ → Answered
+equation-bytes side b x term = after-read b (λ t. term-call side t x term)
+
+-- Join.
+unfoldable pub join-bytes : Side → List ℕ → List ℕ → Answered
+join-bytes side b c = after-read b (λ t. after-read c (join-call side t))
+
+-- Projection.
+unfoldable pub projection-bytes : Side → List ℕ → ℕ → Answered
+projection-bytes side b keep = after-read b (λ t. projection-call side t keep)
+
+-- Are two tables equal in groups?
+unfoldable pub equal-bytes : List ℕ → List ℕ → Reply
+equal-bytes b c = ask-read b (λ t. ask-read c (equal-call t))
+
+-- Is a variable ground?
+unfoldable pub ground-bytes : Side → List ℕ → ℕ → Reply
+ground-bytes side b x = ask-read b (λ t. ground-call side t x)
+
+-- Are two sets of variables independent?
+unfoldable pub independent-bytes : Side → List ℕ → ℕ → ℕ → Reply
+independent-bytes side b first second = ask-read b (λ t. independent-call side t first second)
+
+-- ---- What is handed back
+
+-- The answer of a call that writes its table: 9 where the output is too short.
+unfoldable pub put-checked : Answer → Answer → Answer
+put-checked Accepted wrote = wrote
+put-checked (Refused r) wrote = Refused r
+
+-- The same, for an output.
+unfoldable pub put-answer : Answered → List ℕ → Answer
+put-answer a out = put-checked (a .answer) (write-answer (a .table) (length out))
+
+-- The number that is returned.
+unfoldable pub put-number : Answered → List ℕ → ℕ
+put-number a out = answer-number (put-answer a out)
+
+-- The bytes of the output afterwards: the form, and past it what they held; all that they held where the call is refused.
+unfoldable pub put-bytes : Answered → List ℕ → List ℕ
+put-bytes a out = written (put-answer a out) (table-form (a .table)) out
+
+-- The number that a question returns.
+unfoldable pub reply-number : Reply → ℕ
+reply-number Q.Yes = 0
+reply-number Q.No = 0
+reply-number (Q.Refused r) = refusal-number r
+
+-- The word of the answer afterwards: 1 for yes, 0 for no, and what it held where the question is refused.
+unfoldable pub reply-word : Reply → ℕ → ℕ
+reply-word Q.Yes w = 1
+reply-word Q.No w = 0
+reply-word (Q.Refused r) w = w

@@ -1,0 +1,61 @@
+use mathlib.Core.Path.{_≡_, refl, _∙_}
+use Prim.Native.Nat.{_-_, _≤_}
+use native.Mathlib.Omega.{arith}
+use borrow.Author.Needs.{needs}
+use lib.ListN.{length, take}
+use lib.Seq.{sets}
+use Rattle.codec.specs.Numbers.{bytes}
+use Rattle.codec.proofs.Laws.{put-turn}
+use Rattle.codec.proofs.put_words.Statement.{statement}
+use Rattle.codec.proofs.put_words.Tie as tie
+
+abbrev Inv-loop : tie.InvT-loop
+Inv-loop b₀ at ws n s i₀ b i = (i ≤ n) × (b ≡ sets b₀ at (bytes (take i ws))) × (length b ≡ length b₀)
+
+abbrev μ-loop : tie.MeasureT-loop
+μ-loop b₀ at ws n s i₀ b i = n - i
+
+loop-holds : tie.Need-loop-holds Inv-loop μ-loop
+unfolding bytes
+loop-holds c = (search needs, refl, refl)
+
+mul-put-number : tie.Need-mul-put-number Inv-loop μ-loop
+mul-put-number c = search needs
+
+add-put-number : tie.Need-add-put-number Inv-loop μ-loop
+add-put-number c = search needs
+
+mul-put-number-2 : tie.Need-mul-put-number-2 Inv-loop μ-loop
+mul-put-number-2 c = search needs
+
+shared-slice-read-put-number : tie.Need-shared-slice-read-put-number Inv-loop μ-loop
+shared-slice-read-put-number c = search needs
+
+put-number-requires : tie.Need-put-number-requires Inv-loop μ-loop
+put-number-requires c κs = search needs
+
+add-i : tie.Need-add-i Inv-loop μ-loop
+add-i c = search needs
+
+loop-less : tie.Need-loop-less Inv-loop μ-loop
+loop-less c = search needs
+
+loop-again : tie.Need-loop-again Inv-loop μ-loop
+loop-again c =
+    let w = c .before .before .before .before .before .before .loop in
+    let a = c .before .before .before .before .before .before .before .before .before .args in (
+      search needs,
+      c .before .before .put-number .ensures ∙ put-turn (a .b .now) (a .ws .now) (w .b) (a .at) (w .i) (search needs) (w .inv .1),
+      c .before .before .put-number .kept .0 ∙ w .inv .2,
+    )
+
+same-length : tie.Need-same-length Inv-loop μ-loop
+same-length c = search needs
+
+returns : tie.Need-returns Inv-loop μ-loop
+returns c =
+    let w = c .before .loop in
+    let e : w .i ≡ c .before .before .before .before .args .n = omega arith in rw e at (w .inv .1)
+
+pub put-words-spec : {M : Type 1} → statement M
+put-words-spec = tie.close (tie.spec Inv-loop μ-loop loop-holds mul-put-number add-put-number mul-put-number-2 shared-slice-read-put-number put-number-requires add-i loop-less loop-again same-length returns)

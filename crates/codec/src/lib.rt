@@ -1,0 +1,88 @@
+// 16-bit numbers in byte buffers, low byte first. Inner: not a public call.
+ghost use mathlib.Core.Path.{_≡_};
+ghost use Prim.Native.Nat.{_+_, _*_, _≤_, _<_};
+ghost use lib.ListN.{length, take, drop};
+ghost use lib.Seq.{sets};
+ghost use Rattle.codec.specs.Numbers.{number-at, numbers, sum, pair, bytes, with-zeros};
+
+// A byte as a 16-bit number.
+fn wide(x: u8) -> u16
+    ensures { λ r. ⌜ (r ≡ x) × (r < 256) ⌝ }
+{
+    x as u16
+}
+
+// The number that stands at an index.
+pub fn number_at(b: &[u8], at: usize) -> u16
+    requires { ⌜ at + 1 < length (now b) ⌝ }
+    ensures { λ r. ⌜ r ≡ number-at (now (b .entry)) at ⌝ }
+{
+    wide(b[at]) + 256 * wide(b[at + 1])
+}
+
+// The n numbers from an index on, then zeros: care words or value words.
+pub fn words_at(b: &[u8], at: usize, n: usize) -> [u32; 256]
+    requires { ⌜ (n ≤ 256) × (at + 2 * n ≤ length (now b)) ⌝ }
+    ensures { λ r. ⌜ r ≡ with-zeros 256 (numbers n (drop at (now (b .entry)))) ⌝ }
+{
+    let mut out = [0u32; 256];
+    let mut i = 0;
+    while i < n {
+        let w = number_at(b, at + 2 * i);
+        out[i] = w as u32;
+        i += 1;
+    }
+    out
+}
+
+// The same of tokens.
+pub fn tokens_at(b: &[u8], at: usize, n: usize) -> [u16; 1024]
+    requires { ⌜ (n ≤ 1024) × (at + 2 * n ≤ length (now b)) ⌝ }
+    ensures { λ r. ⌜ r ≡ with-zeros 1024 (numbers n (drop at (now (b .entry)))) ⌝ }
+{
+    let mut out = [0u16; 1024];
+    let mut i = 0;
+    while i < n {
+        out[i] = number_at(b, at + 2 * i);
+        i += 1;
+    }
+    out
+}
+
+// The sum of the n numbers from an index on, a true sum.
+pub fn sum_at(b: &[u8], at: usize, n: usize) -> usize
+    requires { ⌜ (n ≤ 64) × (at + 2 * n ≤ length (now b)) ⌝ }
+    ensures { λ r. ⌜ r ≡ sum (numbers n (drop at (now (b .entry)))) ⌝ }
+{
+    let mut total = 0usize;
+    let mut i = 0;
+    while i < n {
+        let w = number_at(b, at + 2 * i);
+        total = total + (w as usize);
+        i += 1;
+    }
+    total
+}
+
+// Stores a number, cut to 16 bits, at an index.
+pub fn put_number(b: &mut [u8], at: usize, w: u32)
+    requires { ⌜ at + 1 < length (now b) ⌝ }
+    ensures { λ _. ⌜ now (b .exit) ≡ sets (now (b .entry)) at (pair w) ⌝ }
+{
+    b[at] = (w % 256) as u8;
+    b[at + 1] = (w / 256 % 256) as u8;
+}
+
+// Stores the first n numbers from an index on.
+pub fn put_words(b: &mut [u8], at: usize, ws: &[u32; 256], n: usize)
+    requires { ⌜ (n ≤ 256) × (at + 2 * n ≤ length (now b)) ⌝ }
+    ensures { λ _. ⌜ now (b .exit) ≡ sets (now (b .entry)) at (bytes (take n (now (ws .entry)))) ⌝ }
+{
+    // As a slice its length is known.
+    let s: &[u32] = ws;
+    let mut i = 0;
+    while i < n {
+        put_number(b, at + 2 * i, s[i]);
+        i += 1;
+    }
+}

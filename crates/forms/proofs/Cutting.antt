@@ -1,0 +1,150 @@
+-- Forms that are cut short or followed by more bytes. Assumes nothing.
+use mathlib.Core.Path.{_≡_, refl, sym, ap, _∙_}
+use mathlib.Core.Bool.{Bool, true, false, _&&_, cond}
+use mathlib.Core.List.{List, [], _∷_, _++_}
+use Prim.Native.Nat.{ℕ, zero, suc, _+_, _*_, _≤_, _<_}
+use native.Mathlib.Omega.{arith}
+use borrow.Author.Tests.{leb-true, eqb-true, lt-leb, le-leb, ne-eqb}
+use lib.Dec.{leb, eqb}
+use lib.ListN.{length, getD, take, drop, length-append, length-take, length-drop, List·getD-append}
+use lib.Seq.{getD-take, drop-append-le}
+use Rattle.tables.specs.declared.Table.{Table}
+use Rattle.tables.specs.declared.Refusal.{Refusal}
+use Rattle.tables.specs.declared.Refusal.the-variants as R
+use Rattle.tables.specs.declared.Answer.{Answer}
+use Rattle.tables.specs.declared.Answer.the-variants.{Accepted, Refused}
+use Rattle.tables.specs.Values.{zero-table, accepts, refuses}
+use Rattle.terms.specs.Checks.{most-tokens}
+use Rattle.codec.specs.Numbers.{numbers, sum}
+use Rattle.forms.specs.declared.Extent.{Extent}
+use Rattle.forms.specs.declared.Extent.the-variants.{Whole, Front}
+use Rattle.forms.specs.Tables.{sized, first-size, second-size, table-length, fits, written-entries}
+use Rattle.forms.specs.Tables.{read-entries, read-sized, read-table}
+use Rattle.forms.specs.Equations.{most-equations, equations-length, equations-of, check-sized}
+use Rattle.forms.specs.Equations.{share-out, check-each, check-equations}
+use Rattle.forms.proofs.Tests.{held, grown-table, Passed, reads-passed, equations-passed}
+
+-- ---- The sizes at the front
+
+-- the sizes are the same
+abbrev Sizes : List ℕ → List ℕ → Type 0
+Sizes c b = (first-size c ≡ first-size b) × (second-size c ≡ second-size b)
+
+four-bytes : (c b : List ℕ) → ((i : ℕ) → i < 4 → getD c i 0 ≡ getD b i 0) → Sizes c b
+four-bytes c b f = (rw (f 0 (omega arith), f 1 (omega arith)), rw (f 2 (omega arith), f 3 (omega arith)))
+
+cut-sizes : (b : List ℕ) (k : ℕ) → sized (take k b) ≡ true → Sizes (take k b) b
+unfolding sized
+cut-sizes b k s =
+    let h : 4 ≤ k = omega (arith, leb-true 4 (length (take k b)) s, length-take k b) in
+    four-bytes (take k b) b (λ i lt. getD-take k b i 0 (omega arith))
+
+longer-sizes : (b c : List ℕ) → sized b ≡ true → Sizes (b ++ c) b
+unfolding sized
+longer-sizes b c s =
+    let h = leb-true 4 (length b) s in
+    four-bytes (b ++ c) b (λ i lt. List·getD-append b c 0 i (omega arith))
+
+-- no sizes, or sizes by which it is torn
+torn-by : {A : Type 0} (s : Bool) (a torn : A) → (s ≡ true → a ≡ torn) → cond s a torn ≡ torn
+torn-by true a torn f = f refl
+torn-by false a torn f = refl
+
+-- ---- Tables
+
+-- what an accepted whole form has passed
+whole-passed : (b : List ℕ) (t : Table) → read-table Whole b ≡ accepts t
+    → Passed Whole b × (grown-table b ≡ accepts t) × (table-length (second-size b) ≡ length b)
+unfolding fits
+whole-passed b t e =
+    let p = reads-passed Whole b (accepts t) refl e in
+    (p .0, p .1, eqb-true (table-length (second-size b)) (length b) (p .0 .long))
+
+-- the sizes of b, and a length that does not fit them
+torn : {y : Extent} {b : List ℕ} → Passed y b → (x : Extent) (c : List ℕ) → (sized c ≡ true → Sizes c b)
+    → fits x (table-length (second-size b)) (length c) ≡ false
+    → read-table x c ≡ refuses R.Torn zero-table
+unfolding read-table read-sized
+torn p x c same bad = torn-by (sized c) _ _ (λ s. rw (same s .0, same s .1, p .width, p .few, bad))
+
+too-short : (x : Extent) (length room : ℕ) → room < length → fits x length room ≡ false
+unfolding fits
+too-short Whole length room h = ne-eqb length room (λ e. omega arith)
+too-short Front length room h = lt-leb length room h
+
+-- A table cut short anywhere is torn, whether more bytes may follow or not.
+pub table-cut : (x : Extent) (b : List ℕ) (t : Table) (k : ℕ) → read-table Whole b ≡ accepts t → k < length b
+    → read-table x (take k b) ≡ refuses R.Torn zero-table
+table-cut x b t k e h =
+    let p = whole-passed b t e in
+    torn (p .0) x (take k b) (cut-sizes b k) (too-short x _ _ (omega (arith, p .2, length-take k b)))
+
+-- A table with bytes after it is torn, where it is to be all the bytes.
+pub table-longer : (b : List ℕ) (t : Table) → read-table Whole b ≡ accepts t → (y : ℕ) (c : List ℕ)
+    → read-table Whole (b ++ (y ∷ c)) ≡ refuses R.Torn zero-table
+unfolding fits
+table-longer b t e y c =
+    let p = whole-passed b t e in
+    torn (p .0) Whole (b ++ (y ∷ c)) (λ s. longer-sizes b (y ∷ c) (p .0 .sizes))
+    (ne-eqb (table-length (second-size b)) (length (b ++ (y ∷ c))) (λ q. omega (arith, p .2, length-append b (y ∷ c))))
+
+numbers-front : (n : ℕ) (b c : List ℕ) → 2 * n ≤ length b → numbers n (b ++ c) ≡ numbers n b
+unfolding numbers
+numbers-front zero b c h = refl
+numbers-front (suc n) [] c h = absurd (omega arith)
+numbers-front (suc n) (p ∷ []) c h = absurd (omega arith)
+numbers-front (suc n) (p ∷ q ∷ b) c h = ap (λ (r : List ℕ). (p + 256 * q) ∷ r) (numbers-front n b c (omega arith))
+
+-- the numbers from an index on
+numbers-within : (at n : ℕ) (b c : List ℕ) → at + 2 * n ≤ length b → numbers n (drop at (b ++ c)) ≡ numbers n (drop at b)
+numbers-within at n b c h =
+    ap (numbers n) (drop-append-le at b c (omega arith)) ∙ numbers-front n (drop at b) c (omega (arith, length-drop at b))
+
+-- A table with bytes after it is read as the table alone, where more may follow.
+pub table-followed : (b : List ℕ) (t : Table) → read-table Whole b ≡ accepts t → (c : List ℕ)
+    → read-table Front (b ++ c) ≡ accepts t
+unfolding read-table read-sized read-entries written-entries sized fits
+table-followed b t e c =
+    let p = whole-passed b t e in
+    let n = second-size b in
+    let same = longer-sizes b c (p .0 .sizes) in
+    rw (
+      le-leb 4 (length (b ++ c)) (omega (arith, p .2, length-append b c)),
+      same .0,
+      same .1,
+      p .0 .width,
+      p .0 .few,
+      le-leb (table-length n) (length (b ++ c)) (omega (arith, p .2, length-append b c)),
+      numbers-within 4 n b c (omega (arith, p .2)),
+      numbers-within (4 + 2 * n) n b c (omega (arith, p .2)),
+      p .0 .clean,
+    )
+    (p .1)
+
+-- ---- Equations
+
+-- the sizes of b, and another length
+equations-torn : (l : ℕ) (b c : List ℕ) → check-equations l b ≡ Accepted → (sized c ≡ true → Sizes c b)
+    → (length c ≡ length b → ⊥) → check-equations l c ≡ Refused R.Torn
+unfolding check-equations check-sized
+equations-torn l b c e same other =
+    let p = equations-passed l b e in
+    let bad = ne-eqb (length c) (equations-length (first-size b) (second-size b)) (λ q. other (q ∙ sym (p .long))) in
+    torn-by (sized c) _ _ (λ s. rw (same s .0, same s .1, p .few, bad))
+
+-- Equations cut short anywhere are torn.
+pub equations-cut : (l : ℕ) (b : List ℕ) (k : ℕ) → check-equations l b ≡ Accepted → k < length b
+    → check-equations l (take k b) ≡ Refused R.Torn
+equations-cut l b k e h = equations-torn l b (take k b) e (cut-sizes b k) (λ q. omega (arith, length-take k b))
+
+-- Equations with bytes after them are torn.
+pub equations-longer : (l : ℕ) (b : List ℕ) → check-equations l b ≡ Accepted → (y : ℕ) (c : List ℕ)
+    → check-equations l (b ++ (y ∷ c)) ≡ Refused R.Torn
+equations-longer l b e y c =
+    equations-torn l b (b ++ (y ∷ c)) e (λ s. longer-sizes b (y ∷ c) (equations-passed l b e .sizes))
+    (λ q. omega (arith, length-append b (y ∷ c)))
+
+-- The form of no equations is accepted.
+pub no-equations : (l : ℕ) → check-equations l (0 ∷ 0 ∷ 0 ∷ 0 ∷ []) ≡ Accepted
+unfolding check-equations check-sized sized sum numbers equations-of share-out check-each
+no-equations l = refl

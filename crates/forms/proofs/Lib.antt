@@ -1,0 +1,7 @@
+pub mod Decoding
+pub mod Outcomes
+pub mod Walking
+pub mod Tests
+pub mod Reading
+pub mod Cutting
+pub mod Back

@@ -1,0 +1,155 @@
+-- What a form is answered, test by test, and the bytes that are written. Assumes nothing.
+use mathlib.Core.Path.{_≡_, refl, sym, ap, _∙_}
+use mathlib.Core.Bool.{true, false, _&&_}
+use mathlib.Core.List.{List, [], _∷_, _++_}
+use Prim.Native.Nat.{ℕ, _+_, _*_, _≤_, _<_}
+use native.Mathlib.Nat.{zero-add}
+use native.Mathlib.Omega.{arith}
+use borrow.Author.Tests.{le-leb, lt-leb, eq-eqb, ne-eqb, eqb-true, leb-true}
+use lib.Dec.{leb, eqb}
+use lib.ListN.{length, take, drop, length-append}
+use lib.Seq.{length-take-le, sets, sets-eq}
+use Rattle.model.specs.Growth.{limit}
+use Rattle.tables.specs.declared.Table.{Table}
+use Rattle.tables.specs.declared.Refusal.{Refusal}
+use Rattle.tables.specs.declared.Refusal.the-variants as R
+use Rattle.tables.specs.declared.Answer.the-variants.{Accepted, Refused}
+use Rattle.tables.specs.Values.{good-width, zero-table, refuses, check-table, GoodTable}
+use Rattle.tables.proofs.Checking.{good-holds}
+use Rattle.terms.specs.Checks.{most-tokens}
+use Rattle.codec.specs.Numbers.{sum, pair, bytes}
+use Rattle.codec.proofs.Laws.{length-bytes, bytes-append, sets-append}
+use Rattle.forms.specs.declared.Extent.{Extent}
+use Rattle.forms.specs.declared.Extent.the-variants.{Whole, Front}
+use Rattle.forms.specs.Tables.{sized, first-size, second-size, table-length, fits, read-entries, read-sized, read-table}
+use Rattle.forms.specs.Tables.{table-form, write-checked, write-answer, written}
+use Rattle.forms.specs.Equations.{most-equations, equations-length, counts, equations-of, check-each, check-sized}
+use Rattle.forms.specs.Equations.{check-equations}
+
+-- ---- Reading a table
+
+pub read-unsized : (x : Extent) (b : List ℕ) → length b < 4 → refuses R.Torn zero-table ≡ read-table x b
+unfolding read-table sized
+read-unsized x b short = rw (lt-leb 4 (length b) short)
+
+module _ (x : Extent) (b : List ℕ) (l n : ℕ) (el : l ≡ first-size b) (en : n ≡ second-size b) (room : 4 ≤ length b) where
+  as-sized : read-table x b ≡ read-sized x l n b
+  unfolding read-table sized
+  as-sized = rw (le-leb 4 (length b) room, el, en)
+
+  pub read-width : good-width l ≡ false → refuses R.Width zero-table ≡ read-table x b
+  unfolding read-sized
+  read-width w = rw (as-sized, w)
+
+  module _ (w : good-width l ≡ true) where
+    pub read-many : limit < n → refuses R.Entries zero-table ≡ read-table x b
+    unfolding read-sized
+    read-many lt = rw (as-sized, w, lt-leb n limit lt)
+
+    module _ (few : n ≤ limit) where
+      pub read-torn : fits x (table-length n) (length b) ≡ false → refuses R.Torn zero-table ≡ read-table x b
+      unfolding read-sized
+      read-torn f = rw (as-sized, w, le-leb n limit few, f)
+
+      pub read-all : fits x (table-length n) (length b) ≡ true → read-entries l n b ≡ read-table x b
+      unfolding read-sized
+      read-all f = rw (as-sized, w, le-leb n limit few, f)
+
+pub fits-room : (x : Extent) (length room : ℕ) → fits x length room ≡ true → length ≤ room
+unfolding fits
+fits-room Whole length room f = let e = eqb-true length room f in omega (arith, e)
+fits-room Front length room f = leb-true length room f
+
+-- ---- Writing a table
+
+pub good-few : {t : Table} → GoodTable t → t .n ≤ limit
+good-few g = let h = good-holds g in omega (arith, h .count, h .good .few)
+
+module _ (t : Table) (out : List ℕ) where
+  pub write-refused : {r : Refusal} → check-table t ≡ Refused r
+      → (Refused r ≡ write-answer t (length out)) × (out ≡ written (Refused r) (table-form t) out)
+  unfolding write-answer write-checked written
+  write-refused e = (rw e, refl)
+
+  module _ (good : check-table t ≡ Accepted) where
+    pub write-narrow : length out < table-length (t .n)
+        → (Refused R.Narrow ≡ write-answer t (length out)) × (out ≡ written (Refused R.Narrow) (table-form t) out)
+    unfolding write-answer write-checked written
+    write-narrow short = (rw (good, lt-leb (table-length (t .n)) (length out) short), refl)
+
+    pub write-fits : table-length (t .n) ≤ length out → Accepted ≡ write-answer t (length out)
+    unfolding write-answer write-checked
+    write-fits room = rw (good, le-leb (table-length (t .n)) (length out) room)
+
+-- the four stores of a form
+module _ (t : Table) (out : List ℕ) (cs : t .n ≤ length (t .care)) (vs : t .n ≤ length (t .value)) where
+  abbrev n : ℕ
+  n = t .n
+
+  abbrev cares : List ℕ
+  cares = take n (t .care)
+
+  abbrev values : List ℕ
+  values = take n (t .value)
+
+  form-parts : table-form t ≡ pair (t .l) ++ (pair n ++ (bytes cares ++ bytes values))
+  unfolding table-form bytes
+  form-parts = ap (λ (r : List ℕ). pair (t .l) ++ (pair n ++ r)) (bytes-append cares values)
+
+  bytes-long : (ws : List ℕ) → n ≤ length ws → length (bytes (take n ws)) ≡ 2 * n
+  bytes-long ws h = length-bytes (take n ws) ∙ ap (λ (k : ℕ). 2 * k) (length-take-le n ws h)
+
+  form-long : length (table-form t) ≡ table-length n
+  form-long =
+      ap length form-parts
+      ∙ omega (arith, length-append (bytes cares) (bytes values), bytes-long (t .care) cs, bytes-long (t .value) vs)
+
+  stores : sets (sets (sets (sets out 0 (pair (t .l))) 2 (pair n)) 4 (bytes cares)) (4 + 2 * n) (bytes values)
+      ≡ sets out 0 (table-form t)
+  stores =
+      let at : 4 + length (bytes cares) ≡ 4 + 2 * n = omega (arith, bytes-long (t .care) cs) in
+      sym
+      (ap (sets out 0) form-parts
+      ∙ sets-append (pair (t .l)) (pair n ++ (bytes cares ++ bytes values)) out 0
+      ∙ sets-append (pair n) (bytes cares ++ bytes values) (sets out 0 (pair (t .l))) 2
+      ∙ sets-append (bytes cares) (bytes values) (sets (sets out 0 (pair (t .l))) 2 (pair n)) 4
+      ∙ ap (λ (k : ℕ). sets (sets (sets (sets out 0 (pair (t .l))) 2 (pair n)) 4 (bytes cares)) k (bytes values)) at)
+
+  pub stored : table-length n ≤ length out
+      → sets (sets (sets (sets out 0 (pair (t .l))) 2 (pair n)) 4 (bytes cares)) (4 + 2 * n) (bytes values)
+      ≡ written Accepted (table-form t) out
+  unfolding written
+  stored room =
+      stores ∙ sets-eq (table-form t) out 0 (omega (arith, form-long))
+      ∙ ap (λ (k : ℕ). table-form t ++ drop k out) (zero-add (length (table-form t)))
+
+-- ---- The checks of equations
+
+pub equations-unsized : (l : ℕ) (b : List ℕ) → length b < 4 → Refused R.Torn ≡ check-equations l b
+unfolding check-equations sized
+equations-unsized l b short = rw (lt-leb 4 (length b) short)
+
+module _ (l : ℕ) (b : List ℕ) (e m : ℕ) (ee : e ≡ first-size b) (em : m ≡ second-size b) (room : 4 ≤ length b) where
+  checks-sized : check-equations l b ≡ check-sized l e m b
+  unfolding check-equations sized
+  checks-sized = rw (le-leb 4 (length b) room, ee, em)
+
+  pub equations-long : (leb e most-equations && leb m most-tokens) ≡ false → Refused R.Long ≡ check-equations l b
+  unfolding check-sized
+  equations-long f = rw (checks-sized, f)
+
+  module _ (few : (leb e most-equations && leb m most-tokens) ≡ true) where
+    pub equations-torn : ¬ (length b ≡ equations-length e m) → Refused R.Torn ≡ check-equations l b
+    unfolding check-sized
+    equations-torn f = rw (checks-sized, few, ne-eqb (length b) (equations-length e m) f)
+
+    module _ (whole : length b ≡ equations-length e m) where
+      pub equations-sum : ¬ (sum (counts e b) ≡ m) → Refused R.Term ≡ check-equations l b
+      unfolding check-sized
+      equations-sum f =
+          rw (checks-sized, few, eq-eqb (length b) (equations-length e m) whole, ne-eqb (sum (counts e b)) m f)
+
+      pub equations-each : sum (counts e b) ≡ m → check-each l (equations-of e m b) ≡ check-equations l b
+      unfolding check-sized
+      equations-each f =
+          rw (checks-sized, few, eq-eqb (length b) (equations-length e m) whole, eq-eqb (sum (counts e b)) m f)

@@ -1,0 +1,69 @@
+use mathlib.Core.Path.{sym, _∙_}
+use native.Mathlib.Omega.{arith}
+use borrow.Author.Tests.{not-true, not-false, leb-true}
+use borrow.Author.Needs.{needs}
+use Rattle.tables.proofs.Converting.{both-true}
+use Rattle.forms.proofs.Outcomes.{equations-unsized, equations-long, equations-torn, equations-sum, equations-each}
+use Rattle.forms.proofs.check_equations.Statement.{statement}
+use Rattle.forms.proofs.check_equations.Tie as tie
+
+returns : tie.Need-returns
+returns c = equations-unsized (c .before .before .args .l) (c .before .before .args .b .now) (c .if1 .taken)
+
+number-at-requires : tie.Need-number-at-requires
+number-at-requires c κs = search needs
+
+cast-e : tie.Need-cast-e
+cast-e c = search needs
+
+number-at-requires-2 : tie.Need-number-at-requires-2
+number-at-requires-2 c κs = search needs
+
+cast-m : tie.Need-cast-m
+cast-m c = search needs
+
+returns-2 : tie.Need-returns-2
+returns-2 c = equations-long (c .before .before .before .before .before .args .l) (c .before .before .before .before .before .args .b .now) _ _ (c .before .before .number-at .ensures) (c .before .number-at2 .ensures) (c .before .before .before .if1 .left) (not-true _ (c .if2 .taken))
+
+mul-if3 : tie.Need-mul-if3
+mul-if3 c = search needs
+
+add-if3 : tie.Need-add-if3
+add-if3 c = search needs
+
+mul-if3-2 : tie.Need-mul-if3-2
+mul-if3-2 c = search needs
+
+add-if3-2 : tie.Need-add-if3-2
+add-if3-2 c = search needs
+
+returns-3 : tie.Need-returns-3
+returns-3 c = equations-torn (c .before .before .before .before .before .before .args .l) (c .before .before .before .before .before .before .args .b .now) _ _ (c .before .before .before .number-at .ensures) (c .before .before .number-at2 .ensures) (c .before .before .before .before .if1 .left) (not-false _ (c .before .if2 .left)) (c .if3 .taken)
+
+mul-sum-at : tie.Need-mul-sum-at
+mul-sum-at c = search needs
+
+add-sum-at : tie.Need-add-sum-at
+add-sum-at c = search needs
+
+sum-at-requires : tie.Need-sum-at-requires
+sum-at-requires c κs = let few = both-true _ _ (not-false _ (c .before .if2 .left)) in (leb-true _ 64 (few .0), omega (arith, c .if3 .left))
+
+returns-4 : tie.Need-returns-4
+returns-4 c =
+    equations-sum (c .before .before .before .before .before .before .before .before .args .l) (c .before .before .before .before .before .before .before .before .args .b .now) _ _ (c .before .before .before .before .before .number-at .ensures) (c .before .before .before .before .number-at2 .ensures) (c .before .before .before .before .before .before .if1 .left) (not-false _ (c .before .before .before .if2 .left)) (c .before .before .if3 .left)
+    (λ q. c .if4 .taken (c .before .sum-at .ensures ∙ q))
+
+check-each-requires : tie.Need-check-each-requires
+check-each-requires c κs =
+    let few = both-true _ _ (not-false _ (c .before .before .before .if2 .left)) in
+    (c .before .before .before .before .before .before .before .before .pre, leb-true _ 64 (few .0), leb-true _ 1024 (few .1), sym (c .before .before .if3 .left), sym (c .before .sum-at .ensures) ∙ c .if4 .left)
+
+returns-5 : tie.Need-returns-5
+returns-5 c =
+    c .check-each .ensures
+    ∙ equations-each (c .before .before .before .before .before .before .before .before .before .args .l) (c .before .before .before .before .before .before .before .before .before .args .b .now) _ _ (c .before .before .before .before .before .before .number-at .ensures) (c .before .before .before .before .before .number-at2 .ensures) (c .before .before .before .before .before .before .before .if1 .left) (not-false _ (c .before .before .before .before .if2 .left)) (c .before .before .before .if3 .left)
+    (sym (c .before .before .sum-at .ensures) ∙ c .before .if4 .left)
+
+pub check-equations-spec : {M : Type 1} → statement M
+check-equations-spec = tie.close (tie.spec returns number-at-requires cast-e number-at-requires-2 cast-m returns-2 mul-if3 add-if3 mul-if3-2 add-if3-2 returns-3 mul-sum-at add-sum-at sum-at-requires returns-4 check-each-requires returns-5)

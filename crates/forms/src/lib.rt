@@ -1,0 +1,138 @@
+// The written forms of tables and equations: 16-bit numbers, low byte first. Inner: not a public call.
+use tables::Answer;
+use tables::Answered;
+use tables::Refusal;
+use tables::Table;
+use tables::lists;
+use terms::Checked;
+ghost use mathlib.Core.Path.{_≡_};
+ghost use mathlib.Core.Bool.{true};
+ghost use Prim.Native.Nat.{ℕ, _+_, _*_, _≤_};
+ghost use lib.ListN.{length};
+ghost use Rattle.tables.specs.Values.{good-width};
+ghost use Rattle.codec.specs.Numbers.{sum};
+ghost use Rattle.forms.specs.Tables.{fits, table-length, read-entries, read-table, write-answer, table-form, written};
+ghost use Rattle.forms.specs.Equations.{equations-length, counts, equations-of, check-each, check-equations};
+
+// Where a form ends: it is all the bytes, or more may follow it.
+pub enum Extent {
+    Whole,
+    Front,
+}
+
+// May a form of that length be read from so many bytes?
+fn fits(extent: Extent, length: usize, room: usize) -> bool
+    ensures { λ r. ⌜ r ≡ fits extent length room ⌝ }
+{
+    match extent {
+        Extent::Whole => length == room,
+        Extent::Front => length <= room,
+    }
+}
+
+// The table of n written entries: 4 by entry, then each is grown, in order.
+fn read_entries(l: u32, n: usize, b: &[u8]) -> Answered
+    requires { ⌜ (good-width l ≡ true) × (n ≤ 256) × (table-length n ≤ length (now b)) ⌝ }
+    ensures { λ r. ⌜ r ≡ read-entries l n (now (b .entry)) ⌝ }
+{
+    let ycare = codec::words_at(b, 4, n);
+    let yvalue = codec::words_at(b, 4 + 2 * n, n);
+    if !lists::all_clean(&ycare, &yvalue, n, l) {
+        return tables::refused(Refusal::Stray);
+    }
+    let mut care = [0u32; 256];
+    let mut value = [0u32; 256];
+    let g = lists::grow_each(&mut care, &mut value, 0, l, &ycare, &yvalue, n);
+    tables::made_or_full(l, Table::zero(), g, &care, &value)
+}
+
+// Reads a table: sizes present (1), 2, 3, length (1), 4 by entry.
+pub fn read_table(extent: Extent, b: &[u8]) -> Answered
+    ensures { λ r. ⌜ r ≡ read-table extent (now (b .entry)) ⌝ }
+{
+    if b.len() < 4 {
+        return tables::refused(Refusal::Torn);
+    }
+    let l = codec::number_at(b, 0) as u32;
+    let n = codec::number_at(b, 2) as usize;
+    if !tables::good_width(l) {
+        return tables::refused(Refusal::Width);
+    }
+    if Table::ENTRIES < n {
+        return tables::refused(Refusal::Entries);
+    }
+    if !fits(extent, 4 + 4 * n, b.len()) {
+        return tables::refused(Refusal::Torn);
+    }
+    read_entries(l, n, b)
+}
+
+// Writes the entries of a table as they are: 2, 3, 4, then 9. A refusal writes nothing.
+pub fn write_table(t: Table, out: &mut [u8]) -> Answer
+    ensures answer { λ r. ⌜ r ≡ write-answer t (length (now (out .entry))) ⌝ }
+    ensures bytes { λ r. ⌜ now (out .exit) ≡ written r (table-form t) (now (out .entry)) ⌝ }
+{
+    match tables::check(t) {
+        Answer::Refused(r) => Answer::Refused(r),
+        Answer::Accepted => {
+            let n = t.n;
+            if out.len() < 4 + 4 * n {
+                return Answer::Refused(Refusal::Narrow);
+            }
+            let care = t.care;
+            let value = t.value;
+            codec::put_number(out, 0, t.l);
+            codec::put_number(out, 2, n as u32);
+            codec::put_words(out, 4, &care, n);
+            codec::put_words(out, 4 + 2 * n, &value, n);
+            Answer::Accepted
+        }
+    }
+}
+
+// Equation by equation: the left variable (5), tokens in order (5), whole term (6).
+fn check_each(l: u32, e: usize, m: usize, b: &[u8]) -> Answer
+    requires { ⌜ (l ≤ 32) × (e ≤ 64) × (m ≤ 1024) × (equations-length e m ≡ length (now b)) × (sum (counts e (now b)) ≡ m) ⌝ }
+    ensures { λ r. ⌜ r ≡ check-each l (equations-of e m (now (b .entry))) ⌝ }
+{
+    let row = codec::tokens_at(b, 4 + 4 * e, m);
+    let tokens: &[u16] = &row;
+    let mut at = 0;
+    let mut k = 0;
+    while k < e {
+        let x = codec::number_at(b, 4 + 2 * k) as u32;
+        let n = codec::number_at(b, 4 + 2 * e + 2 * k) as usize;
+        match terms::check_equation(l, x, &tokens[at..at + n]) {
+            Checked::Refused(r) => {
+                return Answer::Refused(r);
+            }
+            Checked::Variables(set) => {
+                at = at + n;
+            }
+        }
+        k += 1;
+    }
+    Answer::Accepted
+}
+
+// The checks of equations: sizes present (1), 7, length (1), sum (6), then equation by equation.
+pub fn check_equations(l: u32, b: &[u8]) -> Answer
+    requires { ⌜ l ≤ 32 ⌝ }
+    ensures { λ r. ⌜ r ≡ check-equations l (now (b .entry)) ⌝ }
+{
+    if b.len() < 4 {
+        return Answer::Refused(Refusal::Torn);
+    }
+    let e = codec::number_at(b, 0) as usize;
+    let m = codec::number_at(b, 2) as usize;
+    if !((e <= 64) & (m <= 1024)) {
+        return Answer::Refused(Refusal::Long);
+    }
+    if b.len() != 4 + 4 * e + 2 * m {
+        return Answer::Refused(Refusal::Torn);
+    }
+    if codec::sum_at(b, 4 + 2 * e, e) != m {
+        return Answer::Refused(Refusal::Term);
+    }
+    check_each(l, e, m, b)
+}
