@@ -12,6 +12,7 @@ ghost use Rattle.sharing.specs.Calls.{side-of};
 ghost use Rattle.byte_calls.specs.Calls.{check-bytes, term-call, change-side-bytes, equation-bytes, join-bytes};
 ghost use Rattle.byte_calls.specs.Calls.{projection-bytes, equal-bytes, ground-bytes, independent-bytes};
 ghost use Rattle.byte_calls.specs.Calls.{put-number, put-bytes, reply-number, reply-word};
+ghost use Rattle.byte_calls.specs.Parts.{lent, smaller-part};
 
 // The bytes of a term handed over by itself: 7 where half the length, rounded down, is above 1024; 1 where it is odd.
 fn check_bytes(term: &[u8]) -> Answer
@@ -179,5 +180,35 @@ pub fn tell(reply: Reply, word: &mut u32) -> u32
             0
         }
         Reply::Refused(r) => tables::refusal_number(r),
+    }
+}
+
+// Of a positive and a negative form at the front of two buffers the one with fewer entries, as the part of the buffer that holds
+// it.
+pub fn smaller<'a>(p: &'a [u8], q: &'a [u8]) -> &'a [u8]
+    ensures { λ r. ⌜ lent r ≡ smaller-part (lent (p .entry)) (lent (q .entry)) ⌝ }
+{
+    let a = forms::read_table(Extent::Front, p);
+    let b = forms::read_table(Extent::Front, q);
+    let first = a.answer;
+    let second = b.answer;
+    let t = a.table;
+    let u = b.table;
+    match first {
+        Answer::Refused(r) => &p[..0],
+        Answer::Accepted => match second {
+            Answer::Refused(r) => &p[..0],
+            Answer::Accepted => {
+                if t.l != u.l {
+                    return &p[..0];
+                }
+                let m = codec::number_at(p, 2) as usize;
+                let n = codec::number_at(q, 2) as usize;
+                if n < m {
+                    return &q[..4 + 4 * n];
+                }
+                &p[..4 + 4 * m]
+            }
+        },
     }
 }

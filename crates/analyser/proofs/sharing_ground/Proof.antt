@@ -1,0 +1,22 @@
+use mathlib.Core.Path.{ap, _∙_}
+use borrow.Author.Needs.{needs}
+use Rattle.model.specs.Tables.{Side}
+use Rattle.byte_calls.specs.Calls.{ground-bytes}
+use Rattle.analyser.proofs.Handing.{telling}
+use Rattle.analyser.proofs.sharing_ground.Statement.{statement}
+use Rattle.analyser.proofs.sharing_ground.Tie as tie
+
+side-numbered-requires : tie.Need-side-numbered-requires
+side-numbered-requires c κs = search needs
+
+ground-requires : tie.Need-ground-requires
+ground-requires c κs = search needs
+
+tell-requires : tie.Need-tell-requires
+tell-requires c κs = search needs
+
+returns : tie.Need-returns
+returns c = telling (c .before .before .before .before .before .args .answer .now) (c .before .before .ground .ensures ∙ ap (λ (s : Side). ground-bytes s (c .before .before .before .before .before .args .table .now) (c .before .before .before .before .before .args .variable)) (c .before .before .before .side-numbered .ensures)) (c .tell .ensures .0) (c .tell .ensures .1)
+
+pub sharing-ground-spec : {M : Type 1} → statement M
+sharing-ground-spec = tie.close (tie.spec side-numbered-requires ground-requires tell-requires returns)

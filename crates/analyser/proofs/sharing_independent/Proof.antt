@@ -1,0 +1,22 @@
+use mathlib.Core.Path.{ap, _∙_}
+use borrow.Author.Needs.{needs}
+use Rattle.model.specs.Tables.{Side}
+use Rattle.byte_calls.specs.Calls.{independent-bytes}
+use Rattle.analyser.proofs.Handing.{telling}
+use Rattle.analyser.proofs.sharing_independent.Statement.{statement}
+use Rattle.analyser.proofs.sharing_independent.Tie as tie
+
+side-numbered-requires : tie.Need-side-numbered-requires
+side-numbered-requires c κs = search needs
+
+independent-requires : tie.Need-independent-requires
+independent-requires c κs = search needs
+
+tell-requires : tie.Need-tell-requires
+tell-requires c κs = search needs
+
+returns : tie.Need-returns
+returns c = telling (c .before .before .before .before .before .args .answer .now) (c .before .before .independent .ensures ∙ ap (λ (s : Side). independent-bytes s (c .before .before .before .before .before .args .table .now) (c .before .before .before .before .before .args .first) (c .before .before .before .before .before .args .second)) (c .before .before .before .side-numbered .ensures)) (c .tell .ensures .0) (c .tell .ensures .1)
+
+pub sharing-independent-spec : {M : Type 1} → statement M
+sharing-independent-spec = tie.close (tie.spec side-numbered-requires independent-requires tell-requires returns)

@@ -1,0 +1,25 @@
+use mathlib.Core.Path.{ap, _∙_}
+use borrow.Author.Needs.{needs}
+use Rattle.model.specs.Tables.{Side}
+use Rattle.byte_calls.specs.Calls.{projection-bytes}
+use Rattle.analyser.proofs.Handing.{putting}
+use Rattle.analyser.proofs.sharing_project.Statement.{statement}
+use Rattle.analyser.proofs.sharing_project.Tie as tie
+
+side-numbered-requires : tie.Need-side-numbered-requires
+side-numbered-requires c κs = search needs
+
+project-requires : tie.Need-project-requires
+project-requires c κs = search needs
+
+put-requires : tie.Need-put-requires
+put-requires c κs = search needs
+
+same-length : tie.Need-same-length
+same-length c = search needs
+
+returns : tie.Need-returns
+returns c = putting (c .before .before .before .before .before .before .before .before .args .out .now) (c .before .before .before .before .project .ensures ∙ ap (λ (s : Side). projection-bytes s (c .before .before .before .before .before .before .before .before .args .table .now) (c .before .before .before .before .before .before .before .before .args .keep)) (c .before .before .before .before .before .side-numbered .ensures)) (c .before .before .put .ensures .0) (c .before .before .put .ensures .1)
+
+pub sharing-project-spec : {M : Type 1} → statement M
+sharing-project-spec = tie.close (tie.spec side-numbered-requires project-requires put-requires same-length returns)

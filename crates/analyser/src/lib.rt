@@ -1,0 +1,200 @@
+// The analyser for C: every call of include/sharing.h. Each returns 0 where it is accepted, else the number of the refusal; after
+// a refusal every byte that was lent holds what it held. A side is told by a number: 0 is positive, any other negative.
+use forms::Extent;
+use running::Running;
+ghost use mathlib.Core.Path.{_≡_};
+ghost use Rattle.tables.specs.Values.{convert-call};
+ghost use Rattle.sharing.specs.Calls.{side-told};
+ghost use Rattle.forms.specs.declared.Extent.the-variants.{Whole};
+ghost use Rattle.forms.specs.Tables.{read-table};
+ghost use Rattle.byte_calls.specs.Calls.{change-side-bytes, equation-bytes, join-bytes, projection-bytes, equal-bytes};
+ghost use Rattle.byte_calls.specs.Calls.{ground-bytes, independent-bytes, put-number, put-bytes, reply-number, reply-word};
+ghost use Rattle.byte_calls.specs.Parts.{lent, smaller-part};
+ghost use Rattle.running.specs.States.{started, advanced, run-state, state-number, state-bytes};
+
+// Reads a form, which grows its entries, and writes it again.
+#[no_mangle]
+pub extern "C" fn sharing_read(table: &[u8], out: &mut [u8]) -> u32
+    ensures number { λ r. ⌜ r ≡ put-number (read-table Whole (now (table .entry))) (now (out .entry)) ⌝ }
+    ensures bytes { λ r. ⌜ now (out .exit) ≡ put-bytes (read-table Whole (now (table .entry))) (now (out .entry)) ⌝ }
+{
+    byte_calls::put(forms::read_table(Extent::Whole, table), out)
+}
+
+// Converts groups, bit i - 1 for Xi, to a positive table.
+#[no_mangle]
+pub extern "C" fn sharing_convert(l: u32, groups: &[u32], out: &mut [u8]) -> u32
+    ensures number { λ r. ⌜ r ≡ put-number (convert-call l (now (groups .entry))) (now (out .entry)) ⌝ }
+    ensures bytes { λ r. ⌜ now (out .exit) ≡ put-bytes (convert-call l (now (groups .entry))) (now (out .entry)) ⌝ }
+{
+    byte_calls::put(tables::convert(l, groups), out)
+}
+
+// Changes the side of a table.
+#[no_mangle]
+pub extern "C" fn sharing_change_side(side: u32, table: &[u8], out: &mut [u8]) -> u32
+    ensures number { λ r. ⌜
+        r ≡ put-number (change-side-bytes (side-told side) (now (table .entry))) (now (out .entry))
+        ⌝ }
+    ensures bytes { λ r. ⌜
+        now (out .exit) ≡ put-bytes (change-side-bytes (side-told side) (now (table .entry))) (now (out .entry))
+        ⌝ }
+{
+    byte_calls::put(
+        byte_calls::change_side(sharing::side_numbered(side), table),
+        out,
+    )
+}
+
+// Applies one equation, Xvariable = the term of the bytes.
+#[no_mangle]
+pub extern "C" fn sharing_equation(
+    side: u32,
+    table: &[u8],
+    variable: u32,
+    term: &[u8],
+    out: &mut [u8],
+) -> u32
+    ensures number { λ r. ⌜
+        r ≡ put-number (equation-bytes (side-told side) (now (table .entry)) variable (now (term .entry))) (now (out .entry))
+        ⌝ }
+    ensures bytes { λ r. ⌜
+        now (out .exit)
+        ≡ put-bytes (equation-bytes (side-told side) (now (table .entry)) variable (now (term .entry))) (now (out .entry))
+        ⌝ }
+{
+    byte_calls::put(
+        byte_calls::equation(sharing::side_numbered(side), table, variable, term),
+        out,
+    )
+}
+
+// Joins two tables of one side.
+#[no_mangle]
+pub extern "C" fn sharing_join(side: u32, first: &[u8], second: &[u8], out: &mut [u8]) -> u32
+    ensures number { λ r. ⌜
+        r ≡ put-number (join-bytes (side-told side) (now (first .entry)) (now (second .entry))) (now (out .entry))
+        ⌝ }
+    ensures bytes { λ r. ⌜
+        now (out .exit) ≡ put-bytes (join-bytes (side-told side) (now (first .entry)) (now (second .entry))) (now (out .entry))
+        ⌝ }
+{
+    byte_calls::put(
+        byte_calls::join(sharing::side_numbered(side), first, second),
+        out,
+    )
+}
+
+// Projects a table onto a set of variables, bit i - 1 for Xi.
+#[no_mangle]
+pub extern "C" fn sharing_project(side: u32, table: &[u8], keep: u32, out: &mut [u8]) -> u32
+    ensures number { λ r. ⌜
+        r ≡ put-number (projection-bytes (side-told side) (now (table .entry)) keep) (now (out .entry))
+        ⌝ }
+    ensures bytes { λ r. ⌜
+        now (out .exit) ≡ put-bytes (projection-bytes (side-told side) (now (table .entry)) keep) (now (out .entry))
+        ⌝ }
+{
+    byte_calls::put(
+        byte_calls::project(sharing::side_numbered(side), table, keep),
+        out,
+    )
+}
+
+// Are two tables of one side equal in groups? 1 for yes, 0 for no.
+#[no_mangle]
+pub extern "C" fn sharing_equal(first: &[u8], second: &[u8], answer: &mut u32) -> u32
+    ensures number { λ r. ⌜ r ≡ reply-number (equal-bytes (now (first .entry)) (now (second .entry))) ⌝ }
+    ensures word { λ r. ⌜
+        now (answer .exit) ≡ reply-word (equal-bytes (now (first .entry)) (now (second .entry))) (now (answer .entry))
+        ⌝ }
+{
+    byte_calls::tell(byte_calls::equal(first, second), answer)
+}
+
+// Is a variable ground: has no group it?
+#[no_mangle]
+pub extern "C" fn sharing_ground(side: u32, table: &[u8], variable: u32, answer: &mut u32) -> u32
+    ensures number { λ r. ⌜ r ≡ reply-number (ground-bytes (side-told side) (now (table .entry)) variable) ⌝ }
+    ensures word { λ r. ⌜
+        now (answer .exit) ≡ reply-word (ground-bytes (side-told side) (now (table .entry)) variable) (now (answer .entry))
+        ⌝ }
+{
+    byte_calls::tell(
+        byte_calls::ground(sharing::side_numbered(side), table, variable),
+        answer,
+    )
+}
+
+// Are two sets of variables independent: does no group meet both?
+#[no_mangle]
+pub extern "C" fn sharing_independent(
+    side: u32,
+    table: &[u8],
+    first: u32,
+    second: u32,
+    answer: &mut u32,
+) -> u32
+    ensures number { λ r. ⌜ r ≡ reply-number (independent-bytes (side-told side) (now (table .entry)) first second) ⌝ }
+    ensures word { λ r. ⌜
+        now (answer .exit)
+        ≡ reply-word (independent-bytes (side-told side) (now (table .entry)) first second) (now (answer .entry))
+        ⌝ }
+{
+    byte_calls::tell(
+        byte_calls::independent(sharing::side_numbered(side), table, first, second),
+        answer,
+    )
+}
+
+// Of a positive and a negative form at the front of two buffers the one with fewer entries, as a part of the buffer that holds
+// it; `part` is any part before the call.
+#[no_mangle]
+pub extern "C" fn sharing_smaller<'a, 'b>(
+    positive: &'a [u8],
+    negative: &'a [u8],
+    part: &'b mut &'a [u8],
+)
+    ensures { λ _. ⌜ lent (now (part .exit)) ≡ smaller-part (lent (positive .entry)) (lent (negative .entry)) ⌝ }
+{
+    *part = byte_calls::smaller(positive, negative);
+}
+
+// Applies equations in order, after the whole input was checked.
+#[no_mangle]
+pub extern "C" fn sharing_run(side: u32, table: &[u8], equations: &[u8]) -> Running
+    ensures { λ r. ⌜ r ≡ run-state side (now (table .entry)) (now (equations .entry)) ⌝ }
+{
+    running::run(side, table, equations)
+}
+
+// Starts a running analysis.
+#[no_mangle]
+pub extern "C" fn sharing_start(side: u32, table: &[u8]) -> Running
+    ensures { λ r. ⌜ r ≡ started side (now (table .entry)) ⌝ }
+{
+    running::start(side, table)
+}
+
+// Applies one equation to a running analysis.
+#[no_mangle]
+pub extern "C" fn sharing_step(state: &mut Running, variable: u32, term: &[u8]) -> u32
+    ensures { λ r. ⌜
+        (now (state .exit) ≡ advanced (now (state .entry)) variable (now (term .entry)))
+        × (r ≡ advanced (now (state .entry)) variable (now (term .entry)) .code)
+        ⌝ }
+{
+    *state = running::advance(*state, variable, term);
+    state.code
+}
+
+// Writes the table of a running analysis.
+#[no_mangle]
+pub extern "C" fn sharing_write(state: &Running, out: &mut [u8]) -> u32
+    ensures { λ r. ⌜
+        (r ≡ state-number (now (state .entry)) (now (out .entry)))
+        × (now (out .exit) ≡ state-bytes (now (state .entry)) (now (out .entry)))
+        ⌝ }
+{
+    running::write(*state, out)
+}

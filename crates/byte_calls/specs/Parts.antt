@@ -1,0 +1,45 @@
+-- The two-buffer call (01, "Written form"): a part of one of two buffers.
+use mathlib.Core.Bool.{cond}
+use mathlib.Core.List.{List}
+use Prim.Native.Nat.{ℕ}
+use lib.Dec.{ltb, eqb}
+use lib.ListN.{take}
+use denote.Ref.{RefT}
+use Rattle.tables.specs.declared.Answer.{Answer}
+use Rattle.tables.specs.declared.Answer.the-variants.{Accepted, Refused}
+use Rattle.forms.specs.declared.Extent.the-variants.{Front}
+use Rattle.forms.specs.Tables.{second-size, table-length, read-table}
+
+-- A part of a buffer: where it stands, and its bytes.
+pub record Part : Type 0 where
+  pub place : ℕ × ℕ
+  pub bytes : List ℕ
+
+-- The part that a reference to a slice lends.
+abbrev pub lent : RefT (List ℕ) → Part
+lent r = record { place = r .ptr; bytes = r .now }
+
+-- The first k bytes of a part.
+abbrev pub front : ℕ → Part → Part
+front k p = record { place = p .place; bytes = take k (p .bytes) }
+
+-- The form that a part begins with, tail cut: its length goes by the n written.
+abbrev pub form : Part → Part
+form p = front (table-length (second-size (p .bytes))) p
+
+-- The second where both are accepted, else the first.
+unfoldable pub if-both : {A : Type 0} → Answer → Answer → A → A → A
+if-both Accepted Accepted none some = some
+if-both Accepted (Refused r) none some = none
+if-both (Refused r) b none some = none
+
+-- The form with fewer entries by the n written; equal ones give the positive. Where either does not read or their l differ, an
+-- empty part; the papers leave free where an empty part stands, and it is the place of the positive buffer.
+unfoldable pub smaller-part : Part → Part → Part
+smaller-part p q =
+    let a = read-table Front (p .bytes) in
+    let b = read-table Front (q .bytes) in
+    if-both (a .answer) (b .answer) (front 0 p)
+    (cond (eqb (a .table .l) (b .table .l))
+    (cond (ltb (second-size (q .bytes)) (second-size (p .bytes))) (form q) (form p))
+    (front 0 p))

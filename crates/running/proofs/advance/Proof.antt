@@ -1,0 +1,22 @@
+use borrow.Author.Needs.{needs}
+use Rattle.running.proofs.Steps.{advance-told}
+use Rattle.running.proofs.advance.Statement.{statement}
+use Rattle.running.proofs.advance.Tie as tie
+
+side-numbered-requires : tie.Need-side-numbered-requires
+side-numbered-requires c κs = search needs
+
+equation-term-requires : tie.Need-equation-term-requires
+equation-term-requires c κs = search needs
+
+answer-number-requires : tie.Need-answer-number-requires
+answer-number-requires c κs = search needs
+
+counted-requires : tie.Need-counted-requires
+counted-requires c κs = search needs
+
+returns : tie.Need-returns
+returns c = rw (c .before .answer-number .ensures, c .counted .ensures) (advance-told (c .before .before .before .before .before .before .before .args .s) (c .before .before .before .before .before .before .before .args .x) (c .before .before .before .before .before .before .before .args .term .now) (c .before .before .before .before .side-numbered .ensures) (c .before .before .before .equation-term .ensures))
+
+pub advance-spec : {M : Type 1} → statement M
+advance-spec = tie.close (tie.spec side-numbered-requires equation-term-requires answer-number-requires counted-requires returns)

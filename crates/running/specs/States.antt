@@ -1,0 +1,79 @@
+-- The running analysis and the run (01, "Refusals" and "Bindings and runs").
+use mathlib.Core.Bool.{cond}
+use mathlib.Core.List.{List, [], _∷_}
+use Prim.Native.Nat.{ℕ, suc, _+_}
+use lib.Dec.{ltb}
+use lib.ListN.{length}
+use Rattle.tables.specs.declared.Table.{Table}
+use Rattle.tables.specs.declared.Answer.{Answer}
+use Rattle.tables.specs.declared.Answer.the-variants.{Accepted, Refused}
+use Rattle.tables.specs.declared.Answered.{Answered}
+use Rattle.tables.specs.Refusals.{refusal-number, answer-number}
+use Rattle.tables.specs.Values.{zero-table}
+use Rattle.sharing.specs.Calls.{side-told, equation-call}
+use Rattle.forms.specs.declared.Extent.the-variants.{Whole}
+use Rattle.forms.specs.Tables.{first-size, second-size, read-table, table-form, write-answer, written}
+use Rattle.forms.specs.Equations.{Written, equations-of, check-equations}
+use Rattle.byte_calls.specs.Calls.{term-call}
+use Rattle.running.specs.declared.Running.{Running}
+
+-- A state: the number of the last answer, the side as it was told, the number of accepted equations, the table.
+abbrev pub state : ℕ → ℕ → ℕ → Table → Running
+state code side applied t = record { code = code; side = side; applied = applied; table = t }
+
+-- ---- The running analysis
+
+-- The state before any equation: that of the table read, or the refusal with a table all zero.
+unfoldable pub started : ℕ → List ℕ → Running
+started side b = state (answer-number (read-table Whole b .answer)) side 0 (read-table Whole b .table)
+
+-- One more where an equation was accepted; the count stays at its largest number.
+unfoldable pub counted : Answer → ℕ → ℕ
+counted Accepted k = cond (ltb k 4294967295) (k + 1) k
+counted (Refused r) k = k
+
+-- The state after an answer to an equation.
+unfoldable pub after-answer : Running → Answered → Running
+after-answer s a = state (answer-number (a .answer)) (s .side) (counted (a .answer) (s .applied)) (a .table)
+
+-- The state after one equation, with its term as bytes.
+unfoldable pub advanced : Running → ℕ → List ℕ → Running
+advanced s x term = after-answer s (term-call (side-told (s .side)) (s .table) x term)
+
+-- ---- The run
+
+-- A run that applied none, with a table all zero.
+abbrev pub none-applied : ℕ → ℕ → Running
+none-applied code side = state code side 0 zero-table
+
+-- The second where accepted, else the first.
+unfoldable pub go-on : Answer → Running → Running → Running
+go-on Accepted stop next = next
+go-on (Refused r) stop next = stop
+
+-- The equations in order from table t, k of them before: the first that is refused ends the run, with the table and the number
+-- before it.
+unfoldable pub run-from : ℕ → Table → ℕ → List Written → Running
+run-from side t k [] = state 0 side k t
+run-from side t k (w ∷ ws) =
+    let a = equation-call (side-told side) t (w .left) (w .tokens) in
+    go-on (a .answer) (state (answer-number (a .answer)) side k (a .table)) (run-from side (a .table) (k + 1) ws)
+
+-- A run: the table is read, then all equations are checked; a refusal by then has applied none.
+unfoldable pub run-state : ℕ → List ℕ → List ℕ → Running
+run-state side b q =
+    let a = read-table Whole b in
+    let c = check-equations (a .table .l) q in
+    go-on (a .answer) (none-applied (answer-number (a .answer)) side)
+    (go-on c (none-applied (answer-number c) side)
+    (run-from side (a .table) 0 (equations-of (first-size q) (second-size q) q)))
+
+-- ---- Writing the table of a state
+
+-- The number that is returned: 2, 3, 4 of the table, then 9.
+unfoldable pub state-number : Running → List ℕ → ℕ
+state-number s out = answer-number (write-answer (s .table) (length out))
+
+-- The bytes of the output afterwards.
+unfoldable pub state-bytes : Running → List ℕ → List ℕ
+state-bytes s out = written (write-answer (s .table) (length out)) (table-form (s .table)) out
