@@ -1,1 +1,3 @@
 pub mod Handing
+pub mod Equations
+pub mod Demand3
