@@ -1,0 +1,253 @@
+/*
+ * Ternary set-sharing tables, positive and negative: the calls of the analyser.
+ *
+ * Tables
+ *   A table speaks of the program variables X1 to Xl, l from 1 to 16, and has 0 to 256 entries in
+ *   order. An entry is a string of l positions, each 0, 1 or * (either). A group is a string of 0
+ *   and 1 with at least one 1. A positive table stands for the groups that some entry covers, a
+ *   negative table for the groups that no entry covers. A set of variables is a word: bit i - 1
+ *   is for Xi.
+ *
+ * The form of a table
+ *   16-bit numbers, low byte first: l, n, then n care words, then n value words; 4 + 4n bytes. Bit
+ *   i - 1 of a word is for position i. Care is 1 where the position is fixed, value is the digit
+ *   there, and value is 0 where care is 0. The form does not say its side: the caller does.
+ *   Reading drops an entry that is all zero or covered by another one (of equal ones the first
+ *   stays); the groups are the same. What a call wrote reads back as it stands, unless the caller
+ *   changed the table in a sharing_running by hand.
+ *
+ *   TABLE FORM below stands for these refusals, in this order:
+ *     1   fewer than 4 bytes
+ *     2   l is not 1 to 16
+ *     3   n is above 256
+ *     1   the length is not 4 + 4n bytes
+ *     4   entry by entry: a bit above l, or a value bit where care is 0
+ *
+ * Terms
+ *   A row of 16-bit tokens; as bytes, low byte first. A token with top bit 0 is the number of a
+ *   variable. One with top bit 1 is a head, with its arity in bits 0 to 3 and its symbol in bits 4
+ *   to 14; as many terms as the arity says follow it.
+ *
+ *   TERM below stands for these refusals of an equation "variable = term", in this order:
+ *     7   more than 1024 tokens: half the length, rounded down, is above 1024
+ *     1   the length is odd
+ *     5   the left variable is not 1 to l
+ *     5   token by token, to the last one: a variable that is not 1 to l
+ *     6   the tokens are not one whole term; no tokens at all are 6 too
+ *
+ * Rules for every call
+ *   - A call that returns a number returns 0 where it is accepted, else the number of the first
+ *     refusal that it meets. It then has written nothing, apart from `code` in sharing_step.
+ *   - Below, 8 stands for "the call needs entry 257", 9 for "out is too short for the form".
+ *   - side: 0 is positive, any other number negative.
+ *   - A buffer is a pointer and the number of its elements. No pointer is ever null, also where
+ *     the length is 0: an empty buffer needs some valid, aligned pointer.
+ *   - The buffers of one call, and the objects that it writes, never overlap.
+ *   - An output may be longer than what is written; its other bytes keep what they held. An output
+ *     of SHARING_MAX_FORM bytes is never too short.
+ */
+#ifndef SHARING_H
+#define SHARING_H
+
+#include <stddef.h>
+#include <stdint.h>
+
+#ifdef __cplusplus
+extern "C" {
+#endif
+
+/* What a call answers. */
+enum {
+    SHARING_ACCEPTED = 0,
+    SHARING_TORN = 1,    /* the length is not what the sizes give */
+    SHARING_WIDTH = 2,   /* l is not 1 to 16 */
+    SHARING_ENTRIES = 3, /* more than 256 entries */
+    SHARING_STRAY = 4,   /* a bit above l, or a value without care */
+    SHARING_NAME = 5,    /* a variable that is not 1 to l */
+    SHARING_TERM = 6,    /* counts that do not sum up, or not one whole term */
+    SHARING_LONG = 7,    /* more than 64 equations or 1024 tokens */
+    SHARING_FULL = 8,    /* entry 257 is needed */
+    SHARING_NARROW = 9,  /* the output is too short */
+    SHARING_UNLIKE = 10, /* two tables of different l */
+    SHARING_KEEP = 11    /* projection onto no variable, or onto one above l */
+};
+
+/* The limits. */
+enum {
+    SHARING_MAX_VARIABLES = 16,
+    SHARING_MAX_ENTRIES = 256,
+    SHARING_MAX_EQUATIONS = 64,
+    SHARING_MAX_TOKENS = 1024,
+    SHARING_MAX_FORM = 1028 /* bytes in the form of a table with 256 entries */
+};
+
+/* The sides. */
+enum { SHARING_POSITIVE = 0, SHARING_NEGATIVE = 1 };
+
+/* A table as a value: l variables, n entries, and zeros past the count. */
+typedef struct {
+    uint32_t l;
+    size_t n;
+    uint32_t care[SHARING_MAX_ENTRIES];
+    uint32_t value[SHARING_MAX_ENTRIES];
+} sharing_table;
+
+/* A running analysis, or the end of a run. */
+typedef struct {
+    uint32_t code;    /* the last answer: 0, or the number of a refusal */
+    uint32_t side;    /* the side, as it was given */
+    uint32_t applied; /* how many equations were accepted; it stays at UINT32_MAX */
+    sharing_table table;
+} sharing_running;
+
+/* A part of a lent buffer. */
+typedef struct {
+    const uint8_t *ptr;
+    size_t len;
+} sharing_part;
+
+/*
+ * Reads a form and writes it again, without the entries that reading drops.
+ * Reads table. Writes the form to out.
+ * Refusals in order: TABLE FORM; 9.
+ * After a refusal: out is as it was.
+ */
+uint32_t sharing_read(const uint8_t *table, size_t table_len, uint8_t *out, size_t out_len);
+
+/*
+ * Converts groups to a positive table of l variables.
+ * Reads groups: any number of words, each a set of variables; a zero word is skipped. groups_len
+ * counts words. Writes the form to out.
+ * Refusals in order: 2 where l is not 1 to 16; 4 where any word has a bit above l; 8; 9.
+ * After a refusal: out is as it was.
+ */
+uint32_t sharing_convert(uint32_t l, const uint32_t *groups, size_t groups_len, uint8_t *out,
+                         size_t out_len);
+
+/*
+ * Changes a table to the other side; it stands for the same groups there.
+ * Reads table, of the side given. Writes the form of the other side to out.
+ * Refusals in order: TABLE FORM; 8; 9.
+ * After a refusal: out is as it was.
+ */
+uint32_t sharing_change_side(uint32_t side, const uint8_t *table, size_t table_len, uint8_t *out,
+                             size_t out_len);
+
+/*
+ * The table after the equation "variable = term".
+ * Reads table and term. Writes the form, of the same side, to out.
+ * Refusals in order: TABLE FORM; TERM; 8; 9.
+ * After a refusal: out is as it was.
+ */
+uint32_t sharing_equation(uint32_t side, const uint8_t *table, size_t table_len, uint32_t variable,
+                          const uint8_t *term, size_t term_len, uint8_t *out, size_t out_len);
+
+/*
+ * The join of two tables of one side: the groups of both together.
+ * Reads first and second. Writes the form, of the same side, to out.
+ * Refusals in order: TABLE FORM of first; TABLE FORM of second; 10 where their l differ; 8; 9.
+ * After a refusal: out is as it was.
+ */
+uint32_t sharing_join(uint32_t side, const uint8_t *first, size_t first_len, const uint8_t *second,
+                      size_t second_len, uint8_t *out, size_t out_len);
+
+/*
+ * The projection onto a set of variables: their positions are kept, in rising order, and the new l
+ * is their number.
+ * Reads table. Writes the form, of the same side, to out.
+ * Refusals in order: TABLE FORM; 11 where keep is 0 or has a bit above l; 8; 9.
+ * After a refusal: out is as it was.
+ */
+uint32_t sharing_project(uint32_t side, const uint8_t *table, size_t table_len, uint32_t keep,
+                         uint8_t *out, size_t out_len);
+
+/*
+ * Do two tables of one side stand for the same groups? The answer is the same for either side.
+ * Reads first and second. Writes 1 for yes or 0 for no to *answer.
+ * Refusals in order: TABLE FORM of first; TABLE FORM of second; 10 where their l differ.
+ * After a refusal: *answer is as it was.
+ */
+uint32_t sharing_equal(const uint8_t *first, size_t first_len, const uint8_t *second,
+                       size_t second_len, uint32_t *answer);
+
+/*
+ * Is a variable ground: does no group have it?
+ * Reads table. Writes 1 for yes or 0 for no to *answer.
+ * Refusals in order: TABLE FORM; 5 where variable is not 1 to l.
+ * After a refusal: *answer is as it was.
+ */
+uint32_t sharing_ground(uint32_t side, const uint8_t *table, size_t table_len, uint32_t variable,
+                        uint32_t *answer);
+
+/*
+ * Are two sets of variables independent: does no group meet both? Goals on independent sets may
+ * run side by side. An empty set is independent of any.
+ * Reads table. Writes 1 for yes or 0 for no to *answer.
+ * Refusals in order: TABLE FORM; 5 where first or second has a bit above l.
+ * After a refusal: *answer is as it was.
+ */
+uint32_t sharing_independent(uint32_t side, const uint8_t *table, size_t table_len, uint32_t first,
+                             uint32_t second, uint32_t *answer);
+
+/*
+ * Of a positive and a negative form, the one with fewer entries.
+ * Reads the two buffers. Each begins with a form; more bytes may follow it and are not looked at.
+ * The counts compared are the n written in the forms; equal counts give the positive form.
+ * Writes to *part where that form stands: the start of its buffer, and its length without what
+ * follows. Nothing is copied, so the part is good as long as that buffer is.
+ * Refuses nothing. Where a form does not read (it is too short for its sizes, or meets 2, 3 or 4)
+ * or the two l differ, part->len is 0, and part->ptr may be in either buffer.
+ * Before the call *part must hold a valid part, for example positive with length 0.
+ */
+void sharing_smaller(const uint8_t *positive, size_t positive_len, const uint8_t *negative,
+                     size_t negative_len, sharing_part *part);
+
+/*
+ * A run: applies the equations of a form to a table, in order.
+ * Reads table and equations. The form of equations is 16-bit numbers, low byte first: e, m, then e
+ * left variables, then e token counts that sum to m, then m tokens; 4 + 4e + 2m bytes.
+ * Returns the state after the run. `code` is
+ *   0  every equation was accepted: `applied` is e;
+ *   8  an equation needed entry 257: `applied` and `table` are as before that equation;
+ *   another refusal, met before any equation was applied: `applied` is 0 and `table` all zero.
+ * Refusals in order: TABLE FORM; then of equations: 1 where there are fewer than 4 bytes; 7 where e
+ * is above 64 or m above 1024; 1 where the length is not 4 + 4e + 2m; 6 where the counts do not sum
+ * to m; then equation by equation: 5 where the left variable is not 1 to l, 5 where a token is a
+ * variable not 1 to l, 6 where the tokens are not one whole term; then 8.
+ */
+sharing_running sharing_run(uint32_t side, const uint8_t *table, size_t table_len,
+                            const uint8_t *equations, size_t equations_len);
+
+/*
+ * Starts a running analysis.
+ * Reads table. Returns a state with the table as read, `applied` 0 and `code` 0.
+ * Refusals in order, in `code`: TABLE FORM.
+ * After a refusal `table` is all zero, so that sharing_step and sharing_write on it meet 2.
+ */
+sharing_running sharing_start(uint32_t side, const uint8_t *table, size_t table_len);
+
+/*
+ * One more equation of a running analysis, "variable = term".
+ * Reads *state and term. Writes *state: its table after the equation, `applied` one more, and
+ * `code`. Returns `code`.
+ * Refusals in order, of the table in *state: 2 where l is not 1 to 16; 3 where n is above 256; 4
+ * where an entry has a bit above l or a value bit where care is 0, or an entry past n is not
+ * zero; then TERM; 8.
+ * After a refusal: `code` holds its number, and the rest of *state is as it was.
+ */
+uint32_t sharing_step(sharing_running *state, uint32_t variable, const uint8_t *term,
+                      size_t term_len);
+
+/*
+ * Writes the table of a running analysis as a form.
+ * Reads *state, which stays as it was, `code` too. Writes the form to out.
+ * Refusals in order: 2, 3, 4 of the table in *state, as in sharing_step; 9.
+ * After a refusal: out is as it was.
+ */
+uint32_t sharing_write(const sharing_running *state, uint8_t *out, size_t out_len);
+
+#ifdef __cplusplus
+}
+#endif
+
+#endif

@@ -1,0 +1,61 @@
+/*
+ * The header, in C99 and in C++: the numbers, the layouts and each call's type are as documented,
+ * and the archive has every name. A state returned by value shows that both agree on its layout.
+ */
+#include <sharing.h>
+
+/* A size of -1 stops the compiler. */
+#define CHECK(name, holds) typedef char name[(holds) ? 1 : -1]
+
+CHECK(answers, SHARING_ACCEPTED == 0 && SHARING_TORN == 1 && SHARING_WIDTH == 2 &&
+                   SHARING_ENTRIES == 3 && SHARING_STRAY == 4 && SHARING_NAME == 5 &&
+                   SHARING_TERM == 6 && SHARING_LONG == 7 && SHARING_FULL == 8 &&
+                   SHARING_NARROW == 9 && SHARING_UNLIKE == 10 && SHARING_KEEP == 11);
+CHECK(limits, SHARING_MAX_VARIABLES == 16 && SHARING_MAX_ENTRIES == 256 &&
+                  SHARING_MAX_EQUATIONS == 64 && SHARING_MAX_TOKENS == 1024);
+CHECK(longest_form, SHARING_MAX_FORM == 4 + 4 * SHARING_MAX_ENTRIES);
+CHECK(sides, SHARING_POSITIVE == 0 && SHARING_NEGATIVE != 0);
+CHECK(table_layout, offsetof(sharing_table, n) == 8 && offsetof(sharing_table, care) == 16 &&
+                        offsetof(sharing_table, value) == 1040 && sizeof(sharing_table) == 2064);
+CHECK(running_layout, offsetof(sharing_running, side) == 4 &&
+                          offsetof(sharing_running, applied) == 8 &&
+                          offsetof(sharing_running, table) == 16 &&
+                          sizeof(sharing_running) == 2080);
+CHECK(part_layout, offsetof(sharing_part, len) == 8 && sizeof(sharing_part) == 16);
+
+typedef const uint8_t *in;
+typedef uint8_t *out;
+typedef uint32_t word;
+
+/* Visible outside this file, so that the linker must find every name. */
+struct calls {
+    word (*read)(in, size_t, out, size_t);
+    word (*convert)(word, const uint32_t *, size_t, out, size_t);
+    word (*change_side)(word, in, size_t, out, size_t);
+    word (*equation)(word, in, size_t, word, in, size_t, out, size_t);
+    word (*join)(word, in, size_t, in, size_t, out, size_t);
+    word (*project)(word, in, size_t, word, out, size_t);
+    word (*equal)(in, size_t, in, size_t, word *);
+    word (*ground)(word, in, size_t, word, word *);
+    word (*independent)(word, in, size_t, word, word, word *);
+    void (*smaller)(in, size_t, in, size_t, sharing_part *);
+    sharing_running (*run)(word, in, size_t, in, size_t);
+    sharing_running (*start)(word, in, size_t);
+    word (*step)(sharing_running *, word, in, size_t);
+    word (*write)(const sharing_running *, out, size_t);
+} calls = {sharing_read,        sharing_convert, sharing_change_side, sharing_equation,
+           sharing_join,        sharing_project, sharing_equal,       sharing_ground,
+           sharing_independent, sharing_smaller, sharing_run,         sharing_start,
+           sharing_step,        sharing_write};
+
+int main(void) {
+    /* Three variables and the entry 01*. */
+    const uint8_t form[] = {3, 0, 1, 0, 3, 0, 2, 0};
+    sharing_running state = calls.start(7, form, sizeof form);
+    int agree = state.code == SHARING_ACCEPTED && state.side == 7 && state.applied == 0 &&
+                state.table.l == 3 && state.table.n == 1 && state.table.care[0] == 3 &&
+                state.table.value[0] == 2;
+    for (size_t i = 1; i < SHARING_MAX_ENTRIES; i++)
+        agree = agree && state.table.care[i] == 0 && state.table.value[i] == 0;
+    return agree ? 0 : 1;
+}

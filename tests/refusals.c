@@ -1,0 +1,292 @@
+/*
+ * Every refusal that the header documents, call by call. Each case has the fault that is named
+ * and, where they can stand together, the later ones too: so the order shows. After a refusal the
+ * outputs must be as they were.
+ */
+#include <sharing.h>
+
+#include <stdio.h>
+#include <stdlib.h>
+#include <string.h>
+
+#define WORD(w) (uint8_t)((w) & 0xff), (uint8_t)((w) >> 8)
+#define BYTES(buffer) (buffer), sizeof(buffer)
+#define COUNT(array) (sizeof(array) / sizeof((array)[0]))
+#define EXPECT(due, code) expect_at(__LINE__, due, code)
+#define HOLDS(fact) holds_at(__LINE__, fact)
+
+enum { FILL = 0x5a, NO_ANSWER = 7, FAR = 99 };
+
+static uint8_t out[SHARING_MAX_FORM];
+static uint32_t answer;
+static unsigned cases, failures;
+
+static void holds_at(int line, int holds) {
+    cases++;
+    if (!holds) {
+        printf("refusals.c:%d does not hold\n", line);
+        failures++;
+    }
+}
+
+static void clear_outputs(void) {
+    memset(out, FILL, sizeof out);
+    answer = NO_ANSWER;
+}
+
+static void expect_at(int line, uint32_t due, uint32_t code) {
+    int kept = answer == NO_ANSWER;
+    for (size_t i = 0; i < sizeof out; i++)
+        kept = kept && out[i] == FILL;
+    holds_at(line, code == due && (due == SHARING_ACCEPTED || kept));
+    clear_outputs();
+}
+
+/* Tables. `good` has three variables and the entries 100, 01* and 0*1. */
+static const uint8_t good[] = {WORD(3), WORD(3), WORD(7), WORD(3),
+                               WORD(5), WORD(1), WORD(2), WORD(4)};
+static const uint8_t two_variables[] = {WORD(2), WORD(1), WORD(3), WORD(3)};
+static const uint8_t no_sizes[] = {WORD(17), 1};
+static const uint8_t width_17[] = {WORD(17), WORD(257), 1};
+static const uint8_t width_0[] = {WORD(0), WORD(257)};
+static const uint8_t entries_257[] = {WORD(1), WORD(257), WORD(2), WORD(2)};
+static const uint8_t too_short[] = {WORD(2), WORD(1), WORD(4), 0};
+static const uint8_t too_long[] = {WORD(2), WORD(1), WORD(4), WORD(0), 0};
+static const uint8_t above_l[] = {WORD(2), WORD(1), WORD(4), WORD(0)};
+static const uint8_t no_care[] = {WORD(2), WORD(1), WORD(1), WORD(2)};
+
+typedef struct { const uint8_t *bytes; size_t len; uint32_t due; } bad_form;
+
+static const bad_form bad_tables[] = {
+    {BYTES(no_sizes), SHARING_TORN},  {BYTES(width_17), SHARING_WIDTH},
+    {BYTES(width_0), SHARING_WIDTH},  {BYTES(entries_257), SHARING_ENTRIES},
+    {BYTES(too_short), SHARING_TORN}, {BYTES(too_long), SHARING_TORN},
+    {BYTES(above_l), SHARING_STRAY},  {BYTES(no_care), SHARING_STRAY}};
+
+/* Terms, for tables of three variables. */
+static uint8_t zeros[2 * SHARING_MAX_TOKENS + 3];
+static const uint8_t variable_2[] = {WORD(2)};
+static const uint8_t variable_4[] = {WORD(4)};
+static const uint8_t two_then_4[] = {WORD(2), WORD(4)};
+static const uint8_t two_terms[] = {WORD(2), WORD(3)};
+static const uint8_t half_term[] = {WORD(0x8002), WORD(2)};
+
+typedef struct { uint32_t variable; const uint8_t *term; size_t len; uint32_t due; } bad_equation;
+
+static const bad_equation bad_equations[] = {
+    {FAR, zeros, 2 * SHARING_MAX_TOKENS + 2, SHARING_LONG},
+    {FAR, zeros, 2 * SHARING_MAX_TOKENS + 3, SHARING_LONG},
+    {FAR, zeros, 2 * SHARING_MAX_TOKENS + 1, SHARING_TORN},
+    {0, BYTES(half_term), SHARING_NAME},
+    {4, BYTES(half_term), SHARING_NAME},
+    {1, BYTES(variable_4), SHARING_NAME},
+    {1, BYTES(two_then_4), SHARING_NAME},
+    {1, zeros, 2, SHARING_NAME},
+    {1, BYTES(two_terms), SHARING_TERM},
+    {1, BYTES(half_term), SHARING_TERM},
+    {1, zeros, 0, SHARING_TERM}};
+
+/* Is the table of a refused start or run all zero, and nothing applied? */
+static int is_zero(const sharing_running *state) {
+    int zero = state->applied == 0 && state->table.l == 0 && state->table.n == 0;
+    for (size_t i = 0; i < SHARING_MAX_ENTRIES; i++)
+        zero = zero && state->table.care[i] == 0 && state->table.value[i] == 0;
+    return zero;
+}
+
+/* The refusals of a table's form come before all others of the call. */
+static void refuse_table(bad_form bad) {
+    const uint8_t *form = bad.bytes;
+    size_t len = bad.len;
+    EXPECT(bad.due, sharing_read(form, len, out, 0));
+    EXPECT(bad.due, sharing_change_side(1, form, len, out, 0));
+    EXPECT(bad.due, sharing_equation(0, form, len, FAR, BYTES(zeros), out, 0));
+    EXPECT(bad.due, sharing_join(1, form, len, zeros, 3, out, 0));
+    EXPECT(bad.due, sharing_join(0, BYTES(good), form, len, out, 0));
+    EXPECT(bad.due, sharing_project(0, form, len, 0, out, 0));
+    EXPECT(bad.due, sharing_equal(form, len, zeros, 3, &answer));
+    EXPECT(bad.due, sharing_equal(BYTES(good), form, len, &answer));
+    EXPECT(bad.due, sharing_ground(0, form, len, FAR, &answer));
+    EXPECT(bad.due, sharing_independent(1, form, len, 1u << 31, 0, &answer));
+    sharing_running started = sharing_start(1, form, len);
+    EXPECT(bad.due, started.code);
+    HOLDS(started.side == 1 && is_zero(&started));
+    EXPECT(SHARING_WIDTH, sharing_step(&started, FAR, BYTES(zeros)));
+    EXPECT(SHARING_WIDTH, sharing_write(&started, out, 0));
+    sharing_running ran = sharing_run(0, form, len, zeros, 3);
+    EXPECT(bad.due, ran.code);
+    HOLDS(is_zero(&ran));
+}
+
+/* The refusals of an equation, of one call and of a step, which keeps its table. */
+static void refuse_equation(bad_equation bad) {
+    EXPECT(bad.due, sharing_equation(1, BYTES(good), bad.variable, bad.term, bad.len, out, 0));
+    sharing_running state = sharing_start(0, BYTES(good)), before;
+    memcpy(&before, &state, sizeof state);
+    EXPECT(bad.due, sharing_step(&state, bad.variable, bad.term, bad.len));
+    HOLDS(state.code == bad.due && state.applied == 0 && state.side == 0);
+    HOLDS(memcmp(state.table.care, before.table.care, sizeof before.table.care) == 0 &&
+          memcmp(state.table.value, before.table.value, sizeof before.table.value) == 0 &&
+          state.table.l == before.table.l && state.table.n == before.table.n);
+}
+
+/* The refusals of the form of equations. */
+static void refuse_equations(void) {
+    static const uint8_t e_65[] = {WORD(65), WORD(1025)};
+    static const uint8_t m_1025[] = {WORD(0), WORD(1025)};
+    static const uint8_t cut[] = {WORD(1), WORD(1), WORD(9), WORD(2), 0};
+    static const uint8_t sum[] = {WORD(1), WORD(1), WORD(9), WORD(2), WORD(9)};
+    static const uint8_t left[] = {WORD(1), WORD(1), WORD(9), WORD(1), WORD(0x8001)};
+    static const uint8_t token[] = {WORD(1), WORD(2), WORD(1), WORD(2), WORD(1), WORD(9)};
+    static const uint8_t term[] = {WORD(1), WORD(2), WORD(1), WORD(2), WORD(1), WORD(2)};
+    static const uint8_t none[] = {WORD(1), WORD(0), WORD(1), WORD(0)};
+    static const uint8_t order[] = {WORD(2), WORD(2), WORD(1), WORD(9), WORD(0), WORD(2),
+                                    WORD(9), WORD(9)};
+    const bad_form bad[] = {{zeros, 3, SHARING_TORN},      {BYTES(e_65), SHARING_LONG},
+                            {BYTES(m_1025), SHARING_LONG}, {BYTES(cut), SHARING_TORN},
+                            {BYTES(sum), SHARING_TERM},    {BYTES(left), SHARING_NAME},
+                            {BYTES(token), SHARING_NAME},  {BYTES(term), SHARING_TERM},
+                            {BYTES(none), SHARING_TERM},   {BYTES(order), SHARING_TERM}};
+    for (size_t i = 0; i < COUNT(bad); i++) {
+        sharing_running state = sharing_run(0, BYTES(good), bad[i].bytes, bad[i].len);
+        EXPECT(bad[i].due, state.code);
+        HOLDS(is_zero(&state));
+    }
+    sharing_running state = sharing_run(0, BYTES(good), zeros, 4);
+    HOLDS(state.code == SHARING_ACCEPTED && state.applied == 0 && state.table.n == 3);
+}
+
+/* What the calls refuse after their tables and terms, 8 apart. */
+static void refuse_rest(void) {
+    const uint32_t words[] = {1, 8};
+    const uint8_t all_ones[] = {WORD(3), WORD(1), WORD(7), WORD(7)};
+    EXPECT(SHARING_WIDTH, sharing_convert(0, words, 2, out, 0));
+    EXPECT(SHARING_WIDTH, sharing_convert(17, words, 2, out, 0));
+    EXPECT(SHARING_STRAY, sharing_convert(3, words, 2, out, 0));
+    EXPECT(SHARING_UNLIKE, sharing_join(0, BYTES(good), BYTES(two_variables), out, 0));
+    EXPECT(SHARING_UNLIKE, sharing_equal(BYTES(good), BYTES(two_variables), &answer));
+    EXPECT(SHARING_KEEP, sharing_project(0, BYTES(good), 0, out, 0));
+    EXPECT(SHARING_KEEP, sharing_project(1, BYTES(good), 8 | 1, out, 0));
+    EXPECT(SHARING_NAME, sharing_ground(0, BYTES(good), 0, &answer));
+    EXPECT(SHARING_NAME, sharing_ground(1, BYTES(good), 4, &answer));
+    EXPECT(SHARING_NAME, sharing_independent(0, BYTES(good), 8, 0, &answer));
+    EXPECT(SHARING_NAME, sharing_independent(1, BYTES(good), 0, 8, &answer));
+    sharing_running state = sharing_start(0, BYTES(good));
+    EXPECT(SHARING_NARROW, sharing_read(BYTES(good), out, sizeof good - 1));
+    EXPECT(SHARING_NARROW, sharing_convert(3, words, 1, out, 7));
+    EXPECT(SHARING_NARROW, sharing_change_side(0, BYTES(good), out, 11));
+    EXPECT(SHARING_NARROW, sharing_equation(0, BYTES(good), 1, BYTES(variable_2), out, 11));
+    EXPECT(SHARING_NARROW, sharing_join(0, BYTES(good), BYTES(all_ones), out, 19));
+    EXPECT(SHARING_NARROW, sharing_project(0, BYTES(good), 1, out, 7));
+    EXPECT(SHARING_NARROW, sharing_write(&state, out, sizeof good - 1));
+    EXPECT(SHARING_ACCEPTED, sharing_write(&state, out, sizeof good));
+}
+
+/* A table in the state is a value: the caller could have changed it. */
+static void refuse_value(uint32_t due, const sharing_running *state) {
+    sharing_running copy;
+    memcpy(&copy, state, sizeof copy);
+    EXPECT(due, sharing_write(&copy, out, 0));
+    HOLDS(copy.code == SHARING_ACCEPTED);
+    EXPECT(due, sharing_step(&copy, FAR, BYTES(zeros)));
+    HOLDS(copy.code == due && copy.applied == 0);
+}
+
+static void refuse_values(void) {
+    sharing_running state = sharing_start(0, BYTES(good));
+    state.table.care[3] = 1;
+    refuse_value(SHARING_STRAY, &state);
+    state.table.care[3] = 0;
+    state.table.value[1] |= 4;
+    refuse_value(SHARING_STRAY, &state);
+    state.table.n = SHARING_MAX_ENTRIES + 1;
+    refuse_value(SHARING_ENTRIES, &state);
+    state.table.l = SHARING_MAX_VARIABLES + 1;
+    refuse_value(SHARING_WIDTH, &state);
+}
+
+/* 257 words of four ones each: no two differ in one bit, so that no entry covers two of them. */
+static void four_ones(uint32_t words[SHARING_MAX_ENTRIES + 1]) {
+    size_t n = 0;
+    for (uint32_t word = 0; n <= SHARING_MAX_ENTRIES; word++) {
+        int ones = 0;
+        for (uint32_t rest = word; rest != 0; rest &= rest - 1)
+            ones++;
+        if (ones == 4)
+            words[n++] = word;
+    }
+}
+
+/* Full, of calls that make lists longer; out is also too short, which would be 9. */
+static void refuse_full_lists(void) {
+    static uint8_t all[SHARING_MAX_FORM];
+    uint8_t one[8];
+    uint32_t words[SHARING_MAX_ENTRIES + 1];
+    four_ones(words);
+    EXPECT(SHARING_FULL, sharing_convert(16, words, SHARING_MAX_ENTRIES + 1, out, 0));
+    EXPECT(SHARING_ACCEPTED, sharing_convert(16, words, SHARING_MAX_ENTRIES, BYTES(all)));
+    EXPECT(SHARING_ACCEPTED, sharing_convert(16, words + SHARING_MAX_ENTRIES, 1, BYTES(one)));
+    EXPECT(SHARING_FULL, sharing_join(0, BYTES(all), BYTES(one), out, 0));
+    EXPECT(SHARING_FULL, sharing_change_side(0, BYTES(all), out, 0));
+    EXPECT(SHARING_FULL, sharing_project(1, BYTES(all), 1, out, 0));
+}
+
+/* Full, of an equation: X1 with any of X2 to X15 is more than 256 groups. */
+static void refuse_full_equation(void) {
+    static uint8_t alone[4 + 4 * 16], term[2 * 16], run[4 + 4 * 2 + 2 * 17];
+    uint32_t words[16];
+    for (int i = 0; i < 16; i++)
+        words[i] = 1u << i;
+    EXPECT(SHARING_ACCEPTED, sharing_convert(16, words, 16, BYTES(alone)));
+    const uint8_t sizes[] = {WORD(2), WORD(17), WORD(1), WORD(1), WORD(1), WORD(16), WORD(1)};
+    term[0] = 0x1f;
+    term[1] = 0x80;
+    for (int i = 1; i < 16; i++)
+        term[2 * i] = (uint8_t)i;
+    memcpy(run, sizes, sizeof sizes);
+    memcpy(run + sizeof sizes, term, sizeof term);
+    EXPECT(SHARING_FULL, sharing_equation(0, BYTES(alone), 1, BYTES(term), out, 0));
+    sharing_running state = sharing_start(0, BYTES(alone));
+    EXPECT(SHARING_ACCEPTED, sharing_step(&state, 1, variable_2, 2));
+    EXPECT(SHARING_FULL, sharing_step(&state, 1, BYTES(term)));
+    HOLDS(state.code == SHARING_FULL && state.applied == 1 && state.table.n == 15);
+    state = sharing_run(0, BYTES(alone), BYTES(run));
+    HOLDS(state.code == SHARING_FULL && state.applied == 1 && state.table.n == 16);
+}
+
+/* The two-buffer call: where the part stands, and when it is empty. */
+static void smaller_parts(void) {
+    const uint8_t tail[] = {WORD(3), WORD(1), WORD(7), WORD(7), 9, 9};
+    const uint8_t same[] = {WORD(3), WORD(1), WORD(3), WORD(3)};
+    sharing_part part = {good, 0};
+    sharing_smaller(BYTES(good), BYTES(tail), &part);
+    HOLDS(part.ptr == tail && part.len == 8);
+    sharing_smaller(BYTES(tail), BYTES(good), &part);
+    HOLDS(part.ptr == tail && part.len == 8);
+    sharing_smaller(BYTES(same), BYTES(tail), &part);
+    HOLDS(part.ptr == same && part.len == 8);
+    sharing_smaller(BYTES(good), BYTES(two_variables), &part);
+    HOLDS(part.len == 0);
+    for (size_t i = 0; i < COUNT(bad_tables); i++) {
+        part.ptr = good;
+        part.len = sizeof good;
+        sharing_smaller(bad_tables[i].bytes, bad_tables[i].len, BYTES(good), &part);
+        HOLDS(part.len == 0);
+    }
+}
+
+int main(void) {
+    clear_outputs();
+    for (size_t i = 0; i < COUNT(bad_tables); i++)
+        refuse_table(bad_tables[i]);
+    for (size_t i = 0; i < COUNT(bad_equations); i++)
+        refuse_equation(bad_equations[i]);
+    refuse_equations();
+    refuse_rest();
+    refuse_values();
+    refuse_full_lists();
+    refuse_full_equation();
+    smaller_parts();
+    printf("%u cases, %u failed\n", cases, failures);
+    return failures == 0 ? EXIT_SUCCESS : EXIT_FAILURE;
+}
