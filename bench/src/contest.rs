@@ -2,12 +2,15 @@
 
 use std::borrow::Cow;
 use std::hint::black_box;
+use std::time::Duration;
 
 use reference::refusal::{number_of, Refusal};
-use reference::{growth, values, Entry, Equation, Side, ENTRIES};
+use reference::{growth, questions, values, Entry, Equation, Side, ENTRIES};
 
+use crate::enumeration;
 use crate::load::{Chain, Input, L};
 use crate::ours::{self, Table};
+use crate::questions::{Equality, Independence};
 use crate::timing::{least, Times};
 
 /// What a side gives: the whole table, or the number of the refusal.
@@ -23,13 +26,16 @@ pub fn difference(input: &Input) -> Option<String> {
             answer_difference(ours::convert(L, groups), plain_converted(groups))
         }
         Input::Chain(chain) => chain_difference(chain),
+        Input::Equality(asked) => equality_difference(asked),
+        Input::Independence(asked) => independence_difference(asked),
     }
 }
 
-/// The time that each side takes for one pass over some inputs.
-pub fn times(inputs: &[Input]) -> Times {
+/// The time that each side takes for one pass over some inputs, in a round of about this length.
+pub fn times(inputs: &[Input], long: Duration) -> Times {
     let ours: Vec<OurInput> = inputs.iter().map(OurInput::of).collect();
     least(
+        long,
         || ours.iter().for_each(our_turn),
         || inputs.iter().for_each(plain_turn),
     )
@@ -40,6 +46,8 @@ enum OurInput<'a> {
     Strings(Box<Table>),
     Groups(&'a [u32]),
     Chain(&'a Chain, Box<Table>),
+    Equality(Box<Table>, Box<Table>),
+    Independence(Box<Table>, u32, u32),
 }
 
 impl OurInput<'_> {
@@ -48,6 +56,13 @@ impl OurInput<'_> {
             Input::Strings(strings) => OurInput::Strings(Box::new(Table::of(L, strings))),
             Input::Groups(groups) => OurInput::Groups(groups),
             Input::Chain(chain) => OurInput::Chain(chain, Box::new(of_plain(&chain.start))),
+            Input::Equality(Equality { l, first, second }) => {
+                let table = |list| Box::new(Table::of(*l, list));
+                OurInput::Equality(table(first), table(second))
+            }
+            Input::Independence(Independence { l, entries, a, b }) => {
+                OurInput::Independence(Box::new(Table::of(*l, entries)), *a, *b)
+            }
         }
     }
 }
@@ -62,6 +77,12 @@ fn our_turn(input: &OurInput) {
         OurInput::Chain(chain, start) => {
             black_box(ours_after(chain, start));
         }
+        OurInput::Equality(first, second) => {
+            black_box(ours::equal(first, second));
+        }
+        OurInput::Independence(table, a, b) => {
+            black_box(ours::independent(Side::Negative, table, *a, *b));
+        }
     }
 }
 
@@ -74,6 +95,12 @@ fn plain_turn(input: &Input) {
         }
         Input::Groups(groups) => drop(black_box(values::convert(L, groups))),
         Input::Chain(chain) => drop(black_box(plain_after(chain))),
+        Input::Equality(asked) => {
+            black_box(plain_equal(asked));
+        }
+        Input::Independence(asked) => {
+            black_box(plain_independent(asked));
+        }
     }
 }
 
@@ -120,6 +147,14 @@ fn plain_equation(
     values::equation(side, table, u32::from(equation.left), &equation.term)
 }
 
+fn plain_equal(asked: &Equality) -> bool {
+    enumeration::equal(asked.l, &asked.first, &asked.second)
+}
+
+fn plain_independent(asked: &Independence) -> bool {
+    enumeration::independent_negative(asked.l, &asked.entries, asked.a, asked.b)
+}
+
 /// A plain table as ours lays it out.
 fn of_plain(table: &reference::Table) -> Table {
     Table::of(table.l, &table.entries)
@@ -158,6 +193,55 @@ fn chain_difference(chain: &Chain) -> Option<String> {
         }
     }
     None
+}
+
+/// How the answers about two tables differ.
+fn equality_difference(asked: &Equality) -> Option<String> {
+    let Equality { l, first, second } = asked;
+    let [ours_first, ours_second] = [first, second].map(|list| Table::of(*l, list));
+    let reference = || {
+        let [first, second] = [first, second].map(|list| plain_table(*l, list));
+        questions::equal(&first, &second)
+    };
+    let calls = [
+        ours::equal(&ours_first, &ours_second),
+        ours::lists_equal(&ours_first, &ours_second),
+    ];
+    reply_difference(*l, calls, plain_equal(asked), reference)
+}
+
+/// How the answers about two sets differ.
+fn independence_difference(asked: &Independence) -> Option<String> {
+    let Independence { l, entries, a, b } = asked;
+    let table = Table::of(*l, entries);
+    let reference = || questions::independent(Side::Negative, &plain_table(*l, entries), *a, *b);
+    let calls = [
+        ours::independent(Side::Negative, &table, *a, *b),
+        ours::lists_independent(&table, *a, *b),
+    ];
+    reply_difference(*l, calls, plain_independent(asked), reference)
+}
+
+fn plain_table(l: u32, entries: &[Entry]) -> reference::Table {
+    reference::Table {
+        l,
+        entries: entries.to_vec(),
+    }
+}
+
+/// How a reply differs: ours on tables and on lists, and plain. Of few variables the reference,
+/// which goes through all groups more slowly, is asked too.
+fn reply_difference(
+    l: u32,
+    ours: [u32; 2],
+    plain: bool,
+    reference: impl Fn() -> Result<bool, Refusal>,
+) -> Option<String> {
+    let plain = u32::from(plain);
+    let calls = ours.iter().find_map(|&ours| number_difference(ours, plain));
+    let second =
+        || (l <= L && reference() != Ok(plain == 1)).then(|| "the reference differs".into());
+    calls.or_else(second)
 }
 
 fn number_difference(ours: u32, plain: u32) -> Option<String> {

@@ -5,16 +5,17 @@ use std::ops::RangeInclusive;
 use reference::terms::head;
 use reference::{values, Entry, Equation, Refusal, Side, Table, ENTRIES, VARIABLES};
 
+use crate::questions::{self, Equality, Independence};
 use crate::random::{Draws, Random};
 
-/// The number of variables of every input but the chains.
+/// The number of variables of every input but the chains and the questions.
 pub const L: u32 = 12;
 
 /// Different inputs for each row, so that no single list decides it.
 const INPUTS: usize = 64;
 
 /// Any nonzero number does; this one is the fraction of the golden ratio in 64 bits.
-const SEED: u64 = 0x9E37_79B9_7F4A_7C15;
+pub const SEED: u64 = 0x9E37_79B9_7F4A_7C15;
 
 /// The seeds of the tables that one equation is applied to.
 const EQUATION_SEEDS: RangeInclusive<u32> = 1..=100;
@@ -32,19 +33,19 @@ pub enum Kind {
     Converting,
     Equation,
     Chain,
+    Equality,
+    Independence,
 }
 
 impl Kind {
-    pub const ALL: [Kind; 4] = [Kind::Growing, Kind::Converting, Kind::Equation, Kind::Chain];
-
-    /// The promised bound on the time of ours, as a part of the time of plain Rust.
-    pub fn bound(self) -> f64 {
-        match self {
-            Kind::Growing | Kind::Equation => 0.50,
-            Kind::Converting => 0.40,
-            Kind::Chain => 0.60,
-        }
-    }
+    pub const ALL: [Kind; 6] = [
+        Kind::Growing,
+        Kind::Converting,
+        Kind::Equation,
+        Kind::Chain,
+        Kind::Equality,
+        Kind::Independence,
+    ];
 
     pub fn name(self) -> &'static str {
         match self {
@@ -52,6 +53,8 @@ impl Kind {
             Kind::Converting => "converting",
             Kind::Equation => "equation",
             Kind::Chain => "chain",
+            Kind::Equality => "equality",
+            Kind::Independence => "independence",
         }
     }
 }
@@ -64,6 +67,10 @@ pub enum Input {
     Groups(Vec<u32>),
     /// Equations that are applied, in order.
     Chain(Chain),
+    /// Two tables that are compared.
+    Equality(Equality),
+    /// Two sets that are asked of a negative table.
+    Independence(Independence),
 }
 
 /// Equations of one side, each on the table that the last one returned.
@@ -77,10 +84,13 @@ pub struct Chain {
 pub struct Row {
     pub name: String,
     pub kind: Kind,
+    /// The promised bound on the time of ours, as a part of the time of plain Rust.
+    pub bound: f64,
     pub inputs: Vec<Input>,
 }
 
-/// All rows: growing by rising density of stars, converting, one equation, chains of equations.
+/// All rows: growing by rising density of stars, converting, one equation, chains of equations,
+/// the questions.
 /// An error says that a start table is refused.
 pub fn rows() -> Result<Vec<Row>, Refusal> {
     let mut random = Random(SEED);
@@ -97,6 +107,7 @@ pub fn rows() -> Result<Vec<Row>, Refusal> {
     }
     // Of 16 draws hardly an equation is full, of 32 most are; of 22 one table has all 256 entries.
     rows.push(chains(&mut random, 22)?);
+    rows.extend(questions::rows(&mut random));
     Ok(rows)
 }
 
@@ -106,6 +117,7 @@ fn growing(random: &mut Random, percent: u32) -> Row {
     Row {
         name: format!("growing by {ENTRIES}, {percent} % stars"),
         kind: Kind::Growing,
+        bound: 0.50,
         inputs: (0..INPUTS).map(|_| Input::Strings(list())).collect(),
     }
 }
@@ -116,6 +128,7 @@ fn converting(random: &mut Random, count: usize) -> Row {
     Row {
         name: format!("converting {count}"),
         kind: Kind::Converting,
+        bound: 0.40,
         inputs: (0..INPUTS).map(|_| Input::Groups(groups())).collect(),
     }
 }
@@ -136,6 +149,7 @@ fn equation(side: Side, draws: usize) -> Result<Row, Refusal> {
     Ok(Row {
         name: format!("{} equation, {draws} draws", side_name(side)),
         kind: Kind::Equation,
+        bound: 0.50,
         inputs: EQUATION_SEEDS.map(input).collect::<Result<_, _>>()?,
     })
 }
@@ -152,6 +166,7 @@ fn chains(random: &mut Random, draws: usize) -> Result<Row, Refusal> {
     Ok(Row {
         name: format!("chain of {CHAIN}, {draws} draws"),
         kind: Kind::Chain,
+        bound: 0.60,
         inputs: CHAIN_SEEDS.map(input).collect::<Result<_, _>>()?,
     })
 }

@@ -1,15 +1,20 @@
-//! Compares the verified growth rule, conversion and equation with plain Rust: first that both
-//! give the same tables on every input, then the time that they take. With `--same` it stops
-//! after the first part; with `--check` a ratio above its bound is a failure.
+//! Compares the verified growth rule, conversion, equation and questions with plain Rust: first
+//! that both give the same on every input, then the time that they take; last the time of ours
+//! alone at 32 variables. With `--same` it stops after the first part; with `--check` a ratio above
+//! its bound is a failure.
 
 mod contest;
+mod enumeration;
 mod load;
 mod ours;
+mod questions;
 mod random;
 mod timing;
+mod wide;
 
 use std::process::ExitCode;
 use std::slice;
+use std::time::Duration;
 
 use load::{Kind, Row};
 use timing::Times;
@@ -17,8 +22,14 @@ use timing::Times;
 /// How often every row is timed.
 const ROUNDS: usize = 4;
 
+/// Where samples are long, a round of a row ends once a side has taken this long.
+const LONG: Duration = Duration::from_millis(500);
+
 /// How many inputs of a row are also timed each by itself.
 const REPEATED: usize = 8;
+
+/// The same for one such input.
+const LONG_REPEATED: Duration = Duration::from_millis(100);
 
 /// What is asked of a run.
 #[derive(Clone, Copy, PartialEq, Eq)]
@@ -60,6 +71,7 @@ fn run(mode: Mode) -> Result<(), String> {
     }
     let results = measure(&rows);
     print(&results);
+    wide::print();
     if mode == Mode::Check {
         check_bounds(&results)?;
     }
@@ -97,9 +109,9 @@ impl Measured<'_> {
 
     /// One more round.
     fn round(&mut self) {
-        self.in_turn = self.in_turn.min(contest::times(&self.row.inputs));
+        self.in_turn = self.in_turn.min(contest::times(&self.row.inputs, LONG));
         for (times, input) in self.repeated.iter_mut().zip(&self.row.inputs) {
-            *times = times.min(contest::times(slice::from_ref(input)));
+            *times = times.min(contest::times(slice::from_ref(input), LONG_REPEATED));
         }
     }
 
@@ -142,7 +154,7 @@ fn print(results: &[Measured]) {
             result.row.name,
             microseconds(result.in_turn.plain),
             microseconds(result.in_turn.ours),
-            result.row.kind.bound()
+            result.row.bound
         );
     }
     let worst = Kind::ALL.map(|kind| format!("{} {:.3}", kind.name(), worst(results, kind)));
@@ -159,7 +171,7 @@ fn worst(results: &[Measured], kind: Kind) -> f64 {
 fn check_bounds(results: &[Measured]) -> Result<(), String> {
     let above: Vec<String> = results
         .iter()
-        .filter(|result| result.worst() > result.row.kind.bound())
+        .filter(|result| result.worst() > result.row.bound)
         .map(|result| {
             let name = &result.row.name;
             format!("{name} is above its bound: {:.4}", result.worst())

@@ -1,4 +1,4 @@
-//! The verified side: the three calls of libtiming.a, wrapped in safe functions.
+//! The verified side: the calls of libtiming.a, wrapped in safe functions.
 
 use reference::{Entry, Equation, Side, ENTRIES};
 
@@ -35,6 +35,25 @@ extern "C" {
         m: usize,
     ) -> usize;
     fn timing_equation(side: u32, t: Table, x: u32, tokens: *const u16, len: usize) -> Timed;
+    fn timing_equal(t: Table, u: Table) -> u32;
+    fn timing_independent(side: u32, t: Table, a: u32, b: u32) -> u32;
+    fn timing_lists_equal(
+        acare: *const [u32; ENTRIES],
+        avalue: *const [u32; ENTRIES],
+        an: usize,
+        bcare: *const [u32; ENTRIES],
+        bvalue: *const [u32; ENTRIES],
+        bn: usize,
+        l: u32,
+    ) -> u32;
+    fn timing_lists_independent(
+        care: *const [u32; ENTRIES],
+        value: *const [u32; ENTRIES],
+        n: usize,
+        l: u32,
+        a: u32,
+        b: u32,
+    ) -> u32;
 }
 
 impl Table {
@@ -113,4 +132,39 @@ pub fn equation(side: Side, table: Table, equation: &Equation) -> Timed {
             term.len(),
         )
     }
+}
+
+/// Whether two tables are equal in groups: 0 for no, 1 for yes, above 100 for a refusal.
+pub fn equal(first: &Table, second: &Table) -> u32 {
+    // SAFETY: both tables are passed by value, and any words make a table.
+    unsafe { timing_equal(*first, *second) }
+}
+
+/// Whether two sets are independent, as a number in the same way.
+pub fn independent(side: Side, table: &Table, a: u32, b: u32) -> u32 {
+    // SAFETY: the table is passed by value, and any words make a table.
+    unsafe { timing_independent(side.number(), *table, a, b) }
+}
+
+/// Whether the lists of two tables of one width stand for the same groups: 0 or 1, and 2 where a
+/// number is out of range. The width may be up to 32.
+pub fn lists_equal(first: &Table, second: &Table) -> u32 {
+    // SAFETY: the four arrays are whole and only read.
+    unsafe {
+        timing_lists_equal(
+            &first.care,
+            &first.value,
+            first.n,
+            &second.care,
+            &second.value,
+            second.n,
+            first.l,
+        )
+    }
+}
+
+/// Whether two sets are independent in the negative list of a table, as a number in the same way.
+pub fn lists_independent(table: &Table, a: u32, b: u32) -> u32 {
+    // SAFETY: both arrays are whole and only read.
+    unsafe { timing_lists_independent(&table.care, &table.value, table.n, table.l, a, b) }
 }

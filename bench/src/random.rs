@@ -1,6 +1,6 @@
 //! The two generators, which give the same numbers in each run.
 
-use reference::entry::low_bits;
+use reference::entry::{low_bits, rising_bits};
 use reference::terms::head;
 use reference::{Entry, Equation};
 
@@ -32,6 +32,55 @@ impl Random {
             }
         }
         entry
+    }
+
+    /// A string of l positions, each 0, 1 or `*` with the same chance.
+    pub fn even_string(&mut self, l: u32) -> Entry {
+        let mut entry = Entry::ALL_STAR;
+        for i in 0..l {
+            let digit = self.below(3);
+            entry.care |= u32::from(digit < 2) << i;
+            entry.value |= u32::from(digit == 1) << i;
+        }
+        entry
+    }
+
+    /// A string of l positions with three to six of them fixed, the number, the places and the
+    /// values at random.
+    pub fn hard_string(&mut self, l: u32) -> Entry {
+        let count = 3 + self.below(4);
+        let care = self.variables(l, count, 0);
+        Entry {
+            care,
+            value: self.next() & care,
+        }
+    }
+
+    /// A set of so many of l variables, none of them in the other set.
+    pub fn variables(&mut self, l: u32, count: u32, other: u32) -> u32 {
+        let mut set = 0u32;
+        while set.count_ones() < count {
+            set |= (1 << self.below(l)) & !other;
+        }
+        set
+    }
+
+    /// One of the `*` of a string of l positions, where it has one.
+    pub fn star(&mut self, l: u32, entry: Entry) -> Option<u32> {
+        let stars = low_bits(l) & !entry.care;
+        rising_bits(stars).nth(self.below(stars.count_ones()) as usize)
+    }
+
+    /// Puts a list into a random order.
+    pub fn shuffle<T>(&mut self, list: &mut [T]) {
+        for i in (1..list.len()).rev() {
+            list.swap(i, self.index(i + 1));
+        }
+    }
+
+    /// An index below the length of a list.
+    pub fn index(&mut self, len: usize) -> usize {
+        self.below(len as u32) as usize
     }
 
     /// A group: a word from 1 to 2^l - 1.

@@ -5,11 +5,8 @@ use std::time::{Duration, Instant};
 /// In one round each side is sampled at least this often ...
 const SAMPLES: u32 = 100;
 
-/// ... and for at least this long, ...
+/// ... and for at least this long; but where samples are long the caller ends the round.
 const TIME: Duration = Duration::from_millis(20);
-
-/// ... but where samples are long the round ends once a side has taken this long.
-const LONG: Duration = Duration::from_secs(1);
 
 /// A sample lasts at least this long, so that reading the clock is a small part of it.
 const SAMPLE: Duration = Duration::from_micros(10);
@@ -38,12 +35,13 @@ impl Times {
 }
 
 /// One round: the least time of each side. The samples alternate, so that a slow spell of the
-/// machine falls on both; the least one is what the call takes where nothing disturbs it.
-pub fn least(ours: impl FnMut(), plain: impl FnMut()) -> Times {
+/// machine falls on both; the least one is what the call takes where nothing disturbs it. The
+/// round ends at the latest once a side has taken `long`.
+pub fn least(long: Duration, ours: impl FnMut(), plain: impl FnMut()) -> Times {
     let mut ours = Side::new(ours);
     let mut plain = Side::new(plain);
     let mut samples = 0;
-    while ours.spent.max(plain.spent) < LONG
+    while ours.spent.max(plain.spent) < long
         && (samples < SAMPLES || ours.spent < TIME || plain.spent < TIME)
     {
         ours.sample();

@@ -22,7 +22,7 @@ use Rattle.covering.proofs.Every.{bool-ext, implies, implied, group-tru
 use Rattle.covering.proofs.Splitting.{split-covers, agreed-length, agreed-matches, agreed-keeps, agreed-fixes}
 use Rattle.covering.proofs.Splitting.{subsumes-fixed}
 
-test : {p : Bool} → p ≡ true → T p
+pub test : {p : Bool} → p ≡ true → T p
 test e = rw e tt
 
 -- ---- A list covers g where an entry does
@@ -31,7 +31,7 @@ or-right : (p q : Bool) → q ≡ true → (p || q) ≡ true
 or-right true q h = refl
 or-right false q h = h
 
-covered-at : (τ : Entries) (g : Bits) (i : ℕ) → i < length τ → covers (getD τ i []) g ≡ true → covered τ g ≡ true
+pub covered-at : (τ : Entries) (g : Bits) (i : ℕ) → i < length τ → covers (getD τ i []) g ≡ true → covered τ g ≡ true
 unfolding covered
 covered-at [] g i n h = absurd (omega arith)
 covered-at (s ∷ τ) g zero n h = ap (λ (b : Bool). b || covered τ g) h

@@ -8,11 +8,21 @@ use Rattle.model.specs.Groups.{Bits, meets}
 use Rattle.model.specs.Strings.{Trit, t0, t1, t*, Trits, covers, matches, stars}
 use Rattle.model.specs.Growth.{Entries, covered}
 use Rattle.model.specs.Questions.{every-group}
+use Rattle.words.specs.declared.Entry.{Entry}
+use Rattle.words.specs.Words.{word}
 
 -- r is the index of an entry that matches y, or the count where none does.
 pub record Nearest (τ : Entries) (y : Trits) (r : ℕ) : Type 0 where
   pub found : r < length τ → matches (getD τ r []) y ≡ true
   pub none : length τ ≤ r → (i : ℕ) → i < length τ → matches (getD τ i []) y ≡ false
+
+-- r is the word of a string that matches y, and that covers all that y covers but what passes the test p.
+pub record Forces (p : Bits → Bool) (y : Trits) (r : Entry) : Type 0 where
+  pub forced : Trits
+  pub is : r ≡ word forced
+  pub long : length forced ≡ length y
+  pub match : matches y forced ≡ true
+  pub rest : (g : Bits) → covers y g ≡ true → p g ≡ false → covers forced g ≡ true
 
 -- y with v's value at position i.
 unfoldable pub agreed : ℕ → Trits → Trits → Trits

@@ -1,21 +1,74 @@
 // Is a string covered by a list, and what follows from it: the three questions on working lists, for any width to 32, without
 // going through all groups. Inner: not a public call.
-// `covered` calls itself no deeper than the string has stars: each piece has one position more fixed.
+// `covered` calls itself no deeper than the string has stars: each call has one position more fixed, or several.
 use words::Entry;
 ghost use mathlib.Core.Path.{_≡_};
 ghost use mathlib.Core.Bool.{true, false, not, _&&_};
 ghost use Prim.Native.Nat.{ℕ, _^_, _≤_, _<_};
-ghost use lib.Bits.{bitAnd, bitOr};
+ghost use lib.Bits.{bitAnd, bitOr, bitXor};
 ghost use lib.ListN.{length, getD};
 ghost use Rattle.model.specs.Groups.{Bits, meets};
-ghost use Rattle.model.specs.Strings.{Trits, matches, fixed, one-at};
-ghost use Rattle.model.specs.Growth.{Entries};
+ghost use Rattle.model.specs.Strings.{Trits, covers, matches, fixed, one-at};
+ghost use Rattle.model.specs.Growth.{Entries, covered as covered-list};
 ghost use Rattle.model.specs.Tables.{Side, positive, negative};
 ghost use Rattle.model.specs.Questions.{equal as equal-lists, ground, independent};
 ghost use Rattle.words.specs.Words.{word, set-word};
 ghost use Rattle.tables.specs.Lists.{Holds, OfString};
-ghost use Rattle.covering.specs.Covering.{Nearest, agreed as agreed-string, all-covered, within};
+ghost use Rattle.covering.specs.Covering.{Forces, Nearest, agreed as agreed-string, all-covered, within};
 ghost use Rattle.covering.specs.Covering.{greatest, first-string, apart};
+
+// The position that is fixed in v and `*` in y, as a word, where there is just one and v and y match; else 0.
+fn open_at(v: Entry, y: Entry) -> u32
+    ensures { λ r. ⌜
+        ((s t : Trits) → length s ≡ length t → v ≡ word s → y ≡ word t
+        → Forces (covers s) t (record { care = r; value = bitXor (bitAnd (v .value) r) r }))
+        ⌝ }
+{
+    let c = (v.care | y.care) ^ y.care;
+    if c == 0 {
+        return 0;
+    }
+    if (c & (c - 1)) != 0 {
+        return 0;
+    }
+    if !words::matches(v, y) {
+        return 0;
+    }
+    c
+}
+
+// What each group has that y covers and v does not: the opposite of v at the one open position. Else nothing, all `*`.
+fn forced_by(v: Entry, y: Entry) -> Entry
+    ensures { λ r. ⌜
+        ((s t : Trits) → length s ≡ length t → v ≡ word s → y ≡ word t → Forces (covers s) t r)
+        ⌝ }
+{
+    let c = open_at(v, y);
+    Entry {
+        care: c,
+        value: (v.value & c) ^ c,
+    }
+}
+
+// What each group has that y covers and no entry does.
+fn forced(care: &[u32; 256], value: &[u32; 256], n: usize, y: Entry) -> Entry
+    requires { ⌜ n ≤ 256 ⌝ }
+    ensures { λ r. ⌜
+        ((l : ℕ) → OfString l (now (care .entry)) (now (value .entry)) n y (λ τ s. Forces (covered-list τ) s r))
+        ⌝ }
+{
+    let mut all = Entry { care: 0, value: 0 };
+    let mut i = 0;
+    while i < n {
+        let v = Entry {
+            care: care[i],
+            value: value[i],
+        };
+        all = words::meet(all, forced_by(v, y));
+        i += 1;
+    }
+    all
+}
 
 // How many pieces v leaves of y: one for each position that is fixed in v and `*` in y. 33 where v and y do not match.
 fn rank(v: Entry, y: Entry) -> u32
@@ -86,13 +139,21 @@ fn agreed(y: Entry, v: Entry, i: u32) -> Entry
 }
 
 // Is every group that y covers covered by an entry? What y covers outside a matching entry v falls into disjoint pieces, one
-// for each position that is fixed in v and `*` in y: the opposite of v there, and v's values before it.
+// for each position that is fixed in v and `*` in y: the opposite of v there, and v's values before it. First comes what spares
+// that: one entry that subsumes y; and the positions that are forced, which are fixed without a split.
 pub fn covered(care: &[u32; 256], value: &[u32; 256], n: usize, l: u32, y: Entry) -> bool
     requires { ⌜ (n ≤ 256) × (l ≤ 32) ⌝ }
     ensures { λ r. ⌜
         OfString l (now (care .entry)) (now (value .entry)) n y (λ τ s. r ≡ all-covered l τ s)
         ⌝ }
 {
+    if tables::lists::subsumed(care, value, n, y) {
+        return true;
+    }
+    let x = words::meet(y, forced(care, value, n, y));
+    if y.care < x.care {
+        return covered(care, value, n, l, x);
+    }
     let at = nearest(care, value, n, y);
     if at == n {
         return words::is_zero(l, y);

@@ -182,12 +182,12 @@ digit-cases (suc zero) h = inr refl
 digit-cases (suc (suc d)) h = absurd (omega arith)
 
 -- a number without its lowest 1, by its last digit
-low-one : (w : ℕ) → bitAnd (w * 2 + 1) (w * 2 + 1 - 1) ≡ w * 2
+pub low-one : (w : ℕ) → bitAnd (w * 2 + 1) (w * 2 + 1 - 1) ≡ w * 2
 low-one w =
     let m : w * 2 + 1 - 1 ≡ w * 2 + 0 = omega arith in
     rw m (and-block 1 w w 1 0 (lit< tt) (lit< tt) ∙ rw (and-self w) (omega arith))
 
-low-zero : (w : ℕ) → ¬ (w ≡ 0) → bitAnd (w * 2 + 0) (w * 2 + 0 - 1) ≡ bitAnd w (w - 1) * 2
+pub low-zero : (w : ℕ) → ¬ (w ≡ 0) → bitAnd (w * 2 + 0) (w * 2 + 0 - 1) ≡ bitAnd w (w - 1) * 2
 low-zero w z =
     let m : w * 2 + 0 - 1 ≡ (w - 1) * 2 + 1 = omega arith in
     rw m (and-block 1 w (w - 1) 0 1 (lit< tt) (lit< tt) ∙ omega arith)

@@ -28,7 +28,7 @@ and-swap false b c d = refl
 -- ---- Position by position
 
 -- h at each position of two strings of one length
-zip : (Trit → Trit → Trit) → Trits → Trits → Trits
+unfoldable pub zip : (Trit → Trit → Trit) → Trits → Trits → Trits
 zip h [] r = []
 zip h (t ∷ s) [] = []
 zip h (t ∷ s) (u ∷ r) = h t u ∷ zip h s r
@@ -43,7 +43,7 @@ all p (t ∷ s) (u ∷ r) = p t u && all p s r
 module _ (w : Trits → ℕ) (bit : Trit → ℕ) (nil : w [] ≡ 0) (cons : (t : Trit) (s : Trits) → w (t ∷ s) ≡ w s * 2 + bit t)
     (h : Trit → Trit → Trit) (F : Op) (f : Digitwise F) (start : F 0 0 0 0 ≡ 0)
     (digit : (t u : Trit) → on-digit F t u ≡ bit (h t u)) where
-  zip-word : (s r : Trits) → length s ≡ length r → on F s r ≡ w (zip h s r)
+  pub zip-word : (s r : Trits) → length s ≡ length r → on F s r ≡ w (zip h s r)
   unfolding zip care-of value-of
   zip-word [] [] e = start ∙ sym nil
   zip-word [] (u ∷ r) e = absurd (suc-ne-zero _ (sym e))

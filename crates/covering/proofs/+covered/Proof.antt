@@ -1,5 +1,6 @@
--- `covered` meets its contract, by recursion: each piece has one position more fixed, so that its word `care` is greater. The
--- loop's invariant is `Left`: all groups of the string are covered exactly if those of what is left of it are.
+-- `covered` meets its contract, by recursion: each piece has one position more fixed, and so has the string with what is forced
+-- where that is anything, so that its word `care` is greater. The loop's invariant is `Left`: all groups of the string are covered
+-- exactly if those of what is left of it are.
 use mathlib.Core.List.{[]}
 use mathlib.Core.Logic.{⊎-elim}
 use mathlib.Core.Path.{_≡_, sym, _∙_}
@@ -10,17 +11,23 @@ use borrow.Author.Tests.{not-true, not-false}
 use borrow.Fn.Kinds.{In}
 use borrow.Fn.PlainCycle.{Measures, is, falls, and}
 use lib.ListN.{getD}
+use Rattle.model.specs.Strings.{meet}
+use Rattle.model.proofs.Candidates.{meet-length}
 use Rattle.tables.specs.Lists.{OfString}
 use Rattle.tables.proofs.Arrays.{holds-at, holds-length}
 use Rattle.covering.proofs.Pieces.{covered-none, Left, left-start, left-pass, left-fail, left-next, left-done, answer}
+use Rattle.covering.proofs.Forcing.{covered-subsumed, covered-forced}
 use Rattle.covering.proofs.Splitting.{or-more, opposed-more}
 use Rattle.covering.proofs.covered.Reads as covered
 use Rattle.covering.proofs.covered.Kinds as covered-kinds
 use Rattle.covering.proofs.+covered.Lts-covered as covered-lts
 use Rattle.covering.proofs.agreed.Reads as agreed-reads
+use Rattle.covering.proofs.forced.Reads as forced-reads
 use Rattle.covering.proofs.nearest.Reads as nearest-reads
 use Rattle.covering.proofs.splits.Reads as splits-reads
+use Rattle.tables.proofs.lists.subsumed.Reads as subsumed-reads
 use Rattle.words.proofs.is_zero.Reads as is-zero-reads
+use Rattle.words.proofs.meet.Reads as meet-reads
 use Rattle.words.proofs.opposed.Reads as opposed-reads
 use Rattle.covering.proofs.+covered.{statement}
 use Rattle.covering.proofs.+covered.Tie.{close}
@@ -37,6 +44,14 @@ covered-below t = and 2 covered-kinds.ps (falls 2 covered-kinds.ps _<_ μ-covere
 -- what is known of the calls
 abbrev calls : ℕ → covered-lts.Claims
 calls t = (
+  subsumed-reads.Asked,
+  subsumed-reads.Learnt,
+  forced-reads.Asked,
+  forced-reads.Learnt,
+  meet-reads.Asked,
+  meet-reads.Learnt,
+  covered-below t,
+  covered.Post,
   nearest-reads.Asked,
   nearest-reads.Learnt,
   is-zero-reads.Asked,
@@ -45,8 +60,6 @@ calls t = (
   splits-reads.Learnt,
   opposed-reads.Asked,
   opposed-reads.Learnt,
-  covered-below t,
-  covered.Post,
   agreed-reads.Asked,
   agreed-reads.Learnt,
 )
@@ -63,29 +76,62 @@ abbrev μ-loop : covered-lts.MeasureT-loop
 μ-loop care value n l at v z₀ i₀ z i = l - i
 
 module _ (t : ℕ) where
+  -- where the function begins
+  abbrev start-of : covered-lts.After-nearest (calls t) (covered-at t) covered.Post Inv-loop μ-loop
+      → covered-lts.Start (calls t) (covered-at t) covered.Post Inv-loop μ-loop
+  start-of c = c .before .before .before .before .before .before .before .before
+
+  subsumed-requires : covered-lts.Need-subsumed-requires (calls t) (covered-at t) covered.Post Inv-loop μ-loop
+  subsumed-requires c κs = search needs
+
+  returns : covered-lts.Need-returns (calls t) (covered-at t) covered.Post Inv-loop μ-loop
+  returns c τ s h n e =
+      covered-subsumed _ τ s (sym (c .before .subsumed .ensures _ τ s h n e) ∙ c .if1 .taken)
+
+  forced-requires : covered-lts.Need-forced-requires (calls t) (covered-at t) covered.Post Inv-loop μ-loop
+  forced-requires c κs = search needs
+
+  meet-requires : covered-lts.Need-meet-requires (calls t) (covered-at t) covered.Post Inv-loop μ-loop
+  meet-requires c κs = search needs
+
+  covered-requires : covered-lts.Need-covered-requires (calls t) (covered-at t) covered.Post Inv-loop μ-loop
+  covered-requires c κs =
+      let at-meet = c .before .before .before in
+      let start = at-meet .before .before .before .before in
+      (omega (arith, c .if2 .taken, at-meet .meet .ok, start .pre .0), search needs)
+
+  returns-2 : covered-lts.Need-returns-2 (calls t) (covered-at t) covered.Post Inv-loop μ-loop
+  returns-2 c τ s h n e =
+      let at-meet = c .before .before .before .before in
+      let f = at-meet .before .forced .ensures _ τ s h n e in
+      let alike = f .long ∙ n in
+      c .covered .ensures τ (meet s (f .forced)) h (meet-length _ s (f .forced) n alike)
+      (at-meet .meet .ensures .1 s (f .forced) (n ∙ sym alike) e (f .is))
+      ∙ covered-forced _ τ s _ f
+
   nearest-requires : covered-lts.Need-nearest-requires (calls t) (covered-at t) covered.Post Inv-loop μ-loop
   nearest-requires c κs = search needs
 
   is-zero-requires : covered-lts.Need-is-zero-requires (calls t) (covered-at t) covered.Post Inv-loop μ-loop
   is-zero-requires c κs = search needs
 
-  returns : covered-lts.Need-returns (calls t) (covered-at t) covered.Post Inv-loop μ-loop
-  returns c τ s h n e =
+  returns-3 : covered-lts.Need-returns-3 (calls t) (covered-at t) covered.Post Inv-loop μ-loop
+  returns-3 c τ s h n e =
       c .is-zero .ensures .1 s n e
       ∙ covered-none _ τ s n
-      (c .before .before .nearest .ensures .1 _ τ s h n e .none (omega (arith, h .count, c .before .if1 .taken)))
+      (c .before .before .nearest .ensures .1 _ τ s h n e .none (omega (arith, h .count, c .before .if3 .taken)))
 
-  mul-t12 : covered-lts.Need-mul-t12 (calls t) (covered-at t) covered.Post Inv-loop μ-loop
-  mul-t12 c = search needs
+  mul-t15 : covered-lts.Need-mul-t15 (calls t) (covered-at t) covered.Post Inv-loop μ-loop
+  mul-t15 c = search needs
 
-  element-copy-out-t15 : covered-lts.Need-element-copy-out-t15 (calls t) (covered-at t) covered.Post Inv-loop μ-loop
-  element-copy-out-t15 c = search needs
+  element-copy-out-t18 : covered-lts.Need-element-copy-out-t18 (calls t) (covered-at t) covered.Post Inv-loop μ-loop
+  element-copy-out-t18 c = search needs
 
-  mul-t16 : covered-lts.Need-mul-t16 (calls t) (covered-at t) covered.Post Inv-loop μ-loop
-  mul-t16 c = search needs
+  mul-t19 : covered-lts.Need-mul-t19 (calls t) (covered-at t) covered.Post Inv-loop μ-loop
+  mul-t19 c = search needs
 
-  element-copy-out-t19 : covered-lts.Need-element-copy-out-t19 (calls t) (covered-at t) covered.Post Inv-loop μ-loop
-  element-copy-out-t19 c = search needs
+  element-copy-out-t22 : covered-lts.Need-element-copy-out-t22 (calls t) (covered-at t) covered.Post Inv-loop μ-loop
+  element-copy-out-t22 c = search needs
 
   loop-holds : covered-lts.Need-loop-holds (calls t) (covered-at t) covered.Post Inv-loop μ-loop
   loop-holds c = (
@@ -93,7 +139,7 @@ module _ (t : ℕ) where
     search needs,
     λ τ s h n e.
         let nearest = c .before .before .before .nearest in
-        let near = found (nearest .ensures .0) (c .before .before .if1 .left) in
+        let near = found (nearest .ensures .0) (c .before .before .if3 .left) in
         left-start _ τ _ s _ n e (nearest .ensures .1 _ τ s h n e .found (omega (arith, near, h .count))),
   )
 
@@ -103,33 +149,36 @@ module _ (t : ℕ) where
   opposed-requires : covered-lts.Need-opposed-requires (calls t) (covered-at t) covered.Post Inv-loop μ-loop
   opposed-requires c κs = search needs
 
-  covered-requires : covered-lts.Need-covered-requires (calls t) (covered-at t) covered.Post Inv-loop μ-loop
-  covered-requires c κs =
+  covered-requires-2 : covered-lts.Need-covered-requires-2 (calls t) (covered-at t) covered.Post Inv-loop μ-loop
+  covered-requires-2 c κs =
       let at-loop = c .before .before .before .before in
-      let start = at-loop .before .before .before .before .before in
-      let clear = c .before .before .splits .ensures .0 (c .before .if2 .taken) in
+      let start = start-of (at-loop .before .before .before .before) in
+      let clear = c .before .before .splits .ensures .0 (c .before .if4 .taken) in
       let more = opposed-more (at-loop .loop .i) (at-loop .loop .z) _ _ clear (c .opposed .ensures .0) in
       (omega (arith, more, c .opposed .ok, start .pre .0, at-loop .loop .inv .1), search needs)
 
-  returns-2 : covered-lts.Need-returns-2 (calls t) (covered-at t) covered.Post Inv-loop μ-loop
-  returns-2 c τ s h n e =
+  returns-4 : covered-lts.Need-returns-4 (calls t) (covered-at t) covered.Post Inv-loop μ-loop
+  returns-4 c τ s h n e =
       let at-split = c .before .before .before in
       let at-loop = at-split .before .before .before in
-      let start = at-loop .before .before .before .before in
-      let l = start .before .args .l in
+      let at-nearest = at-loop .before .before .before .before in
+      let l = start-of at-nearest .args .l in
       let i = at-loop .loop .i in
-      let near = found (start .nearest .ensures .0) (at-loop .before .before .before .if1 .left) in
+      let near = found (at-nearest .nearest .ensures .0) (at-loop .before .before .before .if3 .left) in
       let a = at-loop .loop .inv .2 τ s h n e in
       let long = holds-length h _ near in
       let v = holds-at h _ near in
-      let split = sym (at-split .before .splits .ensures .1 (a .rest) _ (a .is) v) ∙ at-split .if2 .taken in
+      let split = sym (at-split .before .splits .ensures .1 (a .rest) _ (a .is) v) ∙ at-split .if4 .taken in
       left-fail l i τ _ s _ a long split
       (answer l i τ _ s _ a long split _ _
-      (λ k. c .before .before .opposed .ensures .1 (a .rest) _ k (a .is) v) (λ u. c .before .covered .ensures τ u h)
-      ∙ not-true _ (c .if3 .taken))
+      (λ k. c .before .before .opposed .ensures .1 (a .rest) _ k (a .is) v) (λ u. c .before .covered2 .ensures τ u h)
+      ∙ not-true _ (c .if5 .taken))
 
   agreed-requires : covered-lts.Need-agreed-requires (calls t) (covered-at t) covered.Post Inv-loop μ-loop
-  agreed-requires c κs = search needs
+  agreed-requires c κs =
+      let in-loop = c .before .before .before .before .before in
+      let start = start-of (in-loop .before .before .before .before .before) in
+      omega (arith, in-loop .loop-test .taken, start .pre .1 .1)
 
   add-i : covered-lts.Need-add-i (calls t) (covered-at t) covered.Post Inv-loop μ-loop
   add-i c = search needs
@@ -140,11 +189,11 @@ module _ (t : ℕ) where
   loop-again : covered-lts.Need-loop-again (calls t) (covered-at t) covered.Post Inv-loop μ-loop
   loop-again c =
       let at-loop = c .before .before .before in
-      let start = at-loop .before .before .before .before in
-      let l = start .before .args .l in
+      let at-nearest = at-loop .before .before .before .before in
+      let l = start-of at-nearest .args .l in
       let i = at-loop .loop .i in
       let splits = c .before .splits in
-      let near = found (start .nearest .ensures .0) (at-loop .before .before .before .if1 .left) in
+      let near = found (at-nearest .nearest .ensures .0) (at-loop .before .before .before .if3 .left) in
       ⊎-elim
       (λ p. (
         search needs,
@@ -168,19 +217,20 @@ module _ (t : ℕ) where
             rw (p .1)
             (left-pass l i τ _ s _ a (sym (splits .ensures .1 (a .rest) _ (a .is) (holds-at h _ near)) ∙ p .0 .left)),
       ))
-      (c .if2 .came)
+      (c .if4 .came)
 
-  returns-3 : covered-lts.Need-returns-3 (calls t) (covered-at t) covered.Post Inv-loop μ-loop
-  returns-3 c τ s h n e =
+  returns-5 : covered-lts.Need-returns-5 (calls t) (covered-at t) covered.Post Inv-loop μ-loop
+  returns-5 c τ s h n e =
       let at-loop = c .before in
-      let start = at-loop .before .before .before .before in
-      let near = found (start .nearest .ensures .0) (at-loop .before .before .before .if1 .left) in
-      let end : at-loop .loop .i ≡ start .before .args .l = omega arith in
+      let at-nearest = at-loop .before .before .before .before in
+      let near = found (at-nearest .nearest .ensures .0) (at-loop .before .before .before .if3 .left) in
+      let end : at-loop .loop .i ≡ start-of at-nearest .args .l = omega arith in
       left-done _ _ τ s _ (omega (arith, near, h .count)) (holds-length h _ near) (rw end at (at-loop .loop .inv .2 τ s h n e))
 
 pub +covered-spec : {M : Type 1} → statement M
 +covered-spec =
     close μ-covered λ t. covered-lts.spec (calls t) (covered-at t) covered.Post Inv-loop μ-loop
-    (nearest-requires t) (is-zero-requires t) (returns t) (mul-t12 t) (element-copy-out-t15 t) (mul-t16 t)
-    (element-copy-out-t19 t) (loop-holds t) (splits-requires t) (opposed-requires t) (covered-requires t) (returns-2 t)
-    (agreed-requires t) (add-i t) (loop-less t) (loop-again t) (returns-3 t)
+    (subsumed-requires t) (returns t) (forced-requires t) (meet-requires t) (covered-requires t) (returns-2 t)
+    (nearest-requires t) (is-zero-requires t) (returns-3 t) (mul-t15 t) (element-copy-out-t18 t) (mul-t19 t)
+    (element-copy-out-t22 t) (loop-holds t) (splits-requires t) (opposed-requires t) (covered-requires-2 t) (returns-4 t)
+    (agreed-requires t) (add-i t) (loop-less t) (loop-again t) (returns-5 t)

@@ -1,0 +1,230 @@
+//! The random inputs of the questions.
+
+use reference::entry::rising_bits;
+use reference::{Entry, ENTRIES};
+
+use crate::load::{Input, Kind, Row};
+use crate::random::Random;
+
+/// Different inputs for each row.
+const INPUTS: usize = 16;
+
+/// The strings that each table of a pair has in two halves.
+const HALVED: usize = 32;
+
+/// The entries by which the answer about independence is yes.
+const COVERING: usize = 128;
+
+/// The variables of each set that is asked about.
+const ASKED: u32 = 3;
+
+/// Two lists of strings of l positions.
+pub struct Equality {
+    pub l: u32,
+    pub first: Vec<Entry>,
+    pub second: Vec<Entry>,
+}
+
+/// Two sets of l variables, asked of a negative list.
+pub struct Independence {
+    pub l: u32,
+    pub entries: Vec<Entry>,
+    pub a: u32,
+    pub b: u32,
+}
+
+/// How the strings of a table are drawn.
+#[derive(Clone, Copy)]
+pub enum Strings {
+    /// Each position 0, 1 or `*` with the same chance.
+    Even,
+    /// Each position `*` with this chance in percent.
+    Stars(u32),
+    /// Three to six positions fixed.
+    Hard,
+}
+
+impl Strings {
+    fn draw(self, random: &mut Random, l: u32) -> Entry {
+        match self {
+            Strings::Even => random.even_string(l),
+            Strings::Stars(percent) => random.string(l, percent),
+            Strings::Hard => random.hard_string(l),
+        }
+    }
+
+    pub fn name(self) -> String {
+        match self {
+            Strings::Even => "random".into(),
+            Strings::Stars(percent) => format!("{percent} % stars"),
+            Strings::Hard => "hard".into(),
+        }
+    }
+
+    /// The bound of a row of equality.
+    fn bound(self, l: u32) -> f64 {
+        match (self, l) {
+            (Strings::Even, 16) => 1.0,
+            _ => 4.0,
+        }
+    }
+}
+
+/// The rows at 12 and at 16 variables.
+pub fn rows(random: &mut Random) -> Vec<Row> {
+    let mut rows = Vec::new();
+    for l in [12, 16] {
+        for strings in [
+            Strings::Even,
+            Strings::Stars(30),
+            Strings::Stars(50),
+            Strings::Hard,
+        ] {
+            let inputs = (0..INPUTS).map(|_| same_groups(random, strings, l));
+            rows.push(equality("same", strings, l, inputs.collect()));
+        }
+        for strings in [Strings::Even, Strings::Hard] {
+            let inputs = (0..INPUTS).map(|_| drawn_apart(random, strings, l));
+            rows.push(equality("apart", strings, l, inputs.collect()));
+        }
+        for (name, draw) in INDEPENDENCE {
+            let inputs = (0..INPUTS).map(|_| draw(random, l));
+            rows.push(independence(name, l, inputs.collect()));
+        }
+    }
+    rows
+}
+
+/// Draws one input about independence.
+pub type Draw = fn(&mut Random, u32) -> Independence;
+
+/// The sorts of inputs about independence.
+pub const INDEPENDENCE: [(&str, Draw); 3] = [
+    ("yes", all_covered),
+    ("no", one_uncovered),
+    ("hard", hard_sets),
+];
+
+fn equality(name: &str, strings: Strings, l: u32, inputs: Vec<Equality>) -> Row {
+    Row {
+        name: format!("equal {l}, {}, {name}", strings.name()),
+        kind: Kind::Equality,
+        bound: strings.bound(l),
+        inputs: inputs.into_iter().map(Input::Equality).collect(),
+    }
+}
+
+fn independence(name: &str, l: u32, inputs: Vec<Independence>) -> Row {
+    Row {
+        name: format!("independent {l}, {name}"),
+        kind: Kind::Independence,
+        bound: 4.0,
+        inputs: inputs.into_iter().map(Input::Independence).collect(),
+    }
+}
+
+/// Two tables with the same groups, in different orders. Each has some of the strings in two
+/// halves, and seldom the same ones.
+pub fn same_groups(random: &mut Random, strings: Strings, l: u32) -> Equality {
+    let list = draw_list(random, strings, l, ENTRIES - HALVED);
+    Equality {
+        l,
+        first: halved(random, l, list.clone()),
+        second: halved(random, l, list),
+    }
+}
+
+/// Two tables that have nothing to do with each other.
+pub fn drawn_apart(random: &mut Random, strings: Strings, l: u32) -> Equality {
+    Equality {
+        l,
+        first: draw_list(random, strings, l, ENTRIES),
+        second: draw_list(random, strings, l, ENTRIES),
+    }
+}
+
+/// A table in which no group meets both sets: entries that cover all that does, among random ones.
+fn all_covered(random: &mut Random, l: u32) -> Independence {
+    let (a, b) = two_sets(random, l);
+    let mut entries = covering(random, l, a, b);
+    entries.resize_with(ENTRIES, || random.even_string(l));
+    random.shuffle(&mut entries);
+    Independence { l, entries, a, b }
+}
+
+/// The same with one group taken out of each entry that covers it, a group that meets both sets.
+fn one_uncovered(random: &mut Random, l: u32) -> Independence {
+    let mut asked = all_covered(random, l);
+    let meets = |set: u32| set & set.wrapping_neg();
+    let group = random.group(l) | meets(asked.a) | meets(asked.b);
+    for entry in asked.entries.iter_mut().filter(|entry| entry.covers(group)) {
+        *entry = without(random, l, *entry, group);
+    }
+    asked
+}
+
+/// An entry fixed at one position more, or flipped, so that it does not cover a group.
+fn without(random: &mut Random, l: u32, entry: Entry, group: u32) -> Entry {
+    match random.star(l, entry) {
+        Some(bit) => Entry {
+            care: entry.care | bit,
+            value: entry.value | (bit & !group),
+        },
+        None => entry.flip(1),
+    }
+}
+
+/// A table of hard strings. Of up to 16 variables they leave hardly a group uncovered.
+fn hard_sets(random: &mut Random, l: u32) -> Independence {
+    let (a, b) = two_sets(random, l);
+    Independence {
+        l,
+        entries: draw_list(random, Strings::Hard, l, ENTRIES),
+        a,
+        b,
+    }
+}
+
+/// The strings with a 1 in each of two sets, cut into pieces at random.
+fn covering(random: &mut Random, l: u32, a: u32, b: u32) -> Vec<Entry> {
+    let mut list: Vec<Entry> = rising_bits(a)
+        .flat_map(|x| rising_bits(b).map(move |y| Entry::ones_at(x | y)))
+        .collect();
+    while list.len() < COVERING {
+        let k = random.index(list.len());
+        halve(random, l, &mut list, k);
+    }
+    list
+}
+
+/// Two disjoint sets of variables.
+fn two_sets(random: &mut Random, l: u32) -> (u32, u32) {
+    let a = random.variables(l, ASKED, 0);
+    (a, random.variables(l, ASKED, a))
+}
+
+fn draw_list(random: &mut Random, strings: Strings, l: u32, count: usize) -> Vec<Entry> {
+    (0..count).map(|_| strings.draw(random, l)).collect()
+}
+
+/// A list with so many of its strings halved that it has 256, in a random order.
+fn halved(random: &mut Random, l: u32, mut list: Vec<Entry>) -> Vec<Entry> {
+    random.shuffle(&mut list);
+    let mut k = 0;
+    while list.len() < ENTRIES {
+        halve(random, l, &mut list, k);
+        k += 1;
+    }
+    random.shuffle(&mut list);
+    list
+}
+
+/// Cuts one string in two at one of its stars, where it has one.
+fn halve(random: &mut Random, l: u32, list: &mut Vec<Entry>, k: usize) {
+    if let Some(bit) = random.star(l, list[k]) {
+        list[k].care |= bit;
+        let mut other = list[k];
+        other.value |= bit;
+        list.push(other);
+    }
+}

@@ -1,0 +1,15 @@
+use borrow.Author.Needs.{needs}
+use Rattle.timing.proofs.timing_equal.Statement.{statement}
+use Rattle.timing.proofs.timing_equal.Tie as tie
+
+equal-requires : tie.Need-equal-requires
+equal-requires c κs = search needs
+
+reply-number-requires : tie.Need-reply-number-requires
+reply-number-requires c κs = search needs
+
+returns : tie.Need-returns
+returns c = rw (c .reply-number .ensures, c .before .equal .ensures)
+
+pub timing-equal-spec : {M : Type 1} → statement M
+timing-equal-spec = tie.close (tie.spec equal-requires reply-number-requires returns)
