@@ -1,31 +1,25 @@
 -- Strings by which growing changes nothing, and that they stay so as the list grows. Assumes nothing.
 use mathlib.Core.Path.{_≡_, refl, sym, _∙_}
-use mathlib.Core.Bool.{Bool, true, false, _||_, cond}
+use mathlib.Core.Bool.{Bool, true, false, _||_, cond, false≢true}
 use mathlib.Core.List.{List, [], _∷_, _++_}
 use mathlib.Core.Logic.{_⊎_, inl, inr, ⊎-elim}
 use mathlib.Core.Option.{some, none}
-use Prim.Native.Nat.{ℕ, zero, suc, _-_, _^_, _<_}
-use native.Mathlib.Nat.{not-suc-le-zero, le-of-suc-le-suc}
+use Prim.Native.Nat.{ℕ, zero, suc, _-_, _^_, _≤_, _<_}
+use native.Mathlib.Nat.{suc-inj}
 use native.Mathlib.Omega.{arith}
 use borrow.Author.Tests.{eqb-true, eqb-false}
 use lib.Dec.{T, ltb, eqb}
-use lib.ListN.{length, getD, set, replicate, length-set, length-replicate}
+use lib.ListN.{length, getD, set, replicate, length-set, length-replicate, getD-replicate}
 use lib.Seq.{getD-set-same, getD-set-other}
 use lib.Pow.{pow-pos}
 use Rattle.model.specs.Strings.{t0, t1, t*, Trits, subsumes, all-zero, exactly}
 use Rattle.model.specs.Growth.{Entries, limit, subsumed, remove, append, grow}
 use Rattle.model.proofs.Strings.{subsumes-covers, subsumes-exact, exactly-length}
 use Rattle.model.proofs.Tests.{or-cases, or-left, or-right, true-of}
-use Rattle.words.specs.declared.Entry.{Entry}
-use Rattle.words.specs.Words.{word}
+use Rattle.words.specs.Words.{word, key-of}
 use Rattle.words.specs.Words as W
 use Rattle.words.proofs.Codec.{set-length, set-word-set}
-use Rattle.tables.specs.declared.lists.Grown.{Grown}
-use Rattle.tables.specs.declared.lists.Grown.the-variants.{Count}
-use Rattle.tables.specs.Lists.{strings, idle, Holds, Makes, makes}
-use Rattle.tables.specs.Values.{entry-at}
-use Rattle.tables.proofs.Arrays.{holds-is}
-use Rattle.tables.proofs.Toward.{makes-count}
+use Rattle.tables.specs.Lists.{idle, ZeroKey}
 use Rattle.tables.proofs.Converting.{group-word}
 
 -- ---- Subsumption
@@ -136,116 +130,91 @@ module _ (τ : Entries) (y : Trits) {τ′ : Entries} (e : grow τ y ≡ some τ
       (subsumed-append (remove y τ) y y (inr (subsumes-self y)))))
       grow-cases
 
--- ---- The string that is idle in any list
+-- ---- The all-zero string
 
-zero-exactly : (l : ℕ) → T (all-zero (exactly (W.set l 0)))
+zero-exactly : (l : ℕ) → all-zero (exactly (W.set l 0)) ≡ true
 unfolding all-zero exactly W.set
-zero-exactly zero = tt
+zero-exactly zero = refl
 zero-exactly (suc l) = zero-exactly l
 
-abbrev zero-string : ℕ → Trits
-zero-string l = exactly (W.set l 0)
+-- what makes keys makes that of the all-zero string of l positions
+pub zero-key : (l full key : ℕ) → l ≤ 16 → full ≡ 2 ^ l - 1
+    → ((s : Trits) → length s ≤ 16 → record { care = full; value = 0 } ≡ word s → key ≡ key-of s) → ZeroKey l key
+zero-key l full key short e makes =
+    let long = exactly-length (W.set l 0) ∙ set-length l 0 in
+    let is = group-word (W.set l 0) full 0 l (set-length l 0) e (sym (set-word-set l 0 (pow-pos l))) in
+    (exactly (W.set l 0), long, zero-exactly l, makes (exactly (W.set l 0)) (rw long short) is)
 
-zero-string-length : (l : ℕ) → length (zero-string l) ≡ l
-zero-string-length l = exactly-length (W.set l 0) ∙ set-length l 0
+-- it subsumes itself alone
+pub zero-alone : (o s : Trits) → length o ≡ length s → all-zero o ≡ true → subsumes o s ≡ all-zero s
+unfolding subsumes all-zero
+zero-alone [] [] e z = refl
+zero-alone [] (u ∷ s) e z = absurd (omega (arith, e))
+zero-alone (t ∷ o) [] e z = absurd (omega (arith, e))
+zero-alone (t0 ∷ o) (t0 ∷ s) e z = zero-alone o s (suc-inj e) z
+zero-alone (t0 ∷ o) (t1 ∷ s) e z = refl
+zero-alone (t0 ∷ o) (t* ∷ s) e z = refl
+zero-alone (t1 ∷ o) (u ∷ s) e z = absurd (false≢true z)
+zero-alone (t* ∷ o) (u ∷ s) e z = absurd (false≢true z)
 
-zero-string-word : (l full : ℕ) → full ≡ 2 ^ l - 1 → record { care = full; value = 0 } ≡ word (zero-string l)
-zero-string-word l full e = group-word (W.set l 0) full 0 l (set-length l 0) e (sym (set-word-set l 0 (pow-pos l)))
+-- ---- A string that a loop keeps at hand, by its key
 
-zero-string-idle : (l : ℕ) (τ : Entries) → T (idle τ (zero-string l))
-unfolding idle
-zero-string-idle l τ = or-left (all-zero (zero-string l)) (subsumed τ (zero-string l)) (zero-exactly l)
-
--- ---- The string that a loop keeps at hand
-
--- the words are those of a string of l positions that is idle in τ
-pub record Beside (l : ℕ) (τ : Entries) (w : Entry) : Type 0 where
+-- the key is that of a string of l positions that is idle in τ
+pub record Beside (l : ℕ) (τ : Entries) (w : ℕ) : Type 0 where
   pub string : Trits
   pub long : length string ≡ l
-  pub is : w ≡ word string
+  pub is : w ≡ key-of string
   pub stays : T (idle τ string)
 
-pub beside-start : (l full : ℕ) (τ : Entries) → full ≡ 2 ^ l - 1 → Beside l τ (record { care = full; value = 0 })
-beside-start l full τ e = record {
-  string = zero-string l;
-  long = zero-string-length l;
-  is = zero-string-word l full e;
-  stays = zero-string-idle l τ;
+-- the all-zero string is idle in any list
+pub beside-start : {l o : ℕ} (τ : Entries) → ZeroKey l o → Beside l τ o
+unfolding idle
+beside-start τ z = record {
+  string = z .0;
+  long = z .1;
+  is = z .3;
+  stays = or-left (all-zero (z .0)) (subsumed τ (z .0)) (rw (z .2) tt);
 }
 
-module _ {l : ℕ} (τ : Entries) {τ′ : Entries} {w : Entry} (y : Trits) (e : grow τ y ≡ some τ′) where
+module _ {l : ℕ} (τ : Entries) {τ′ : Entries} {w : ℕ} (y : Trits) (e : grow τ y ≡ some τ′) where
   -- growing by y keeps it, and y is one then
   beside-kept : Beside l τ w → Beside l τ′ w
   beside-kept b = record { string = b .string; long = b .long; is = b .is; stays = idle-kept τ y e (b .string) (b .stays) }
 
-  beside-own : length y ≡ l → w ≡ word y → Beside l τ′ w
+  beside-own : length y ≡ l → w ≡ key-of y → Beside l τ′ w
   beside-own long is = record { string = y; long = long; is = is; stays = idle-grown τ y e }
 
-beside-next : {l : ℕ} {τ τ′ : Entries} {w u r : Entry} (y : Trits) → length y ≡ l → u ≡ word y → grow τ y ≡ some τ′
-    → Beside l τ w
-    → r ≡ cond (ltb (u .care) (w .care)) u w → Beside l τ′ r
-beside-next {l = l} {τ = τ} {τ′ = τ′} {w = w} {u = u} y long is e b d = rw d (go (ltb (u .care) (w .care)))
-  where
-    go : (c : Bool) → Beside l τ′ (cond c u w)
-    go true = beside-own τ y e long is
-    go false = beside-kept τ y e b
+-- of it and y the one or the other
+pub beside-next : {l : ℕ} {τ τ′ : Entries} {w u : ℕ} (y : Trits) → grow τ y ≡ some τ′ → length y ≡ l → u ≡ key-of y
+    → Beside l τ w → (c : Bool) → Beside l τ′ (cond c u w)
+beside-next {τ = τ} y e long is b true = beside-own τ y e long is
+beside-next {τ = τ} y e long is b false = beside-kept τ y e b
 
--- the same of what a call makes
-pub beside-step : {l : ℕ} {care value : List ℕ} {r : Grown} {τ : Entries} {m : ℕ} {w u v : Entry} (y : Trits)
-    → Makes l care value r (grow τ y) → r ≡ Count m → length y ≡ l → u ≡ word y → Beside l τ w
-    → v ≡ cond (ltb (u .care) (w .care)) u w → Beside l (strings l care value m) v
-beside-step y told e long is b d = let t = makes-count told e in rw (holds-is (t .2)) (beside-next y long is (t .1) b d)
-
--- what growing by a string that it subsumes leaves
-pub beside-same : {l : ℕ} {care value : List ℕ} {n : ℕ} {τ : Entries} {w : Entry} (b : Beside l τ w) (y : Trits)
-    → Holds l care value n τ
-    → subsumes (b .string) y ≡ true → Makes l care value (Count n) (grow τ y)
-beside-same {τ = τ} b y h e = rw (idle-grow τ y (idle-narrow τ (b .string) y (rw e tt) (b .stays))) (makes h)
+-- growing by a string that it subsumes changes nothing
+pub beside-same : {l : ℕ} {τ : Entries} {w : ℕ} (b : Beside l τ w) (y : Trits) → subsumes (b .string) y ≡ true
+    → grow τ y ≡ some τ
+beside-same {τ = τ} b y e = idle-grow τ y (idle-narrow τ (b .string) y (rw e tt) (b .stays))
 
 -- ---- A filter of 64 slots, each with such a string
 
-pub record Filter (l : ℕ) (τ : Entries) (fcare fvalue : List ℕ) : Type 0 where
-  pub cares : length fcare ≡ 64
-  pub values : length fvalue ≡ 64
-  pub slot : (i : ℕ) → i < 64 → Beside l τ (entry-at fcare fvalue i)
+pub record Filter (l : ℕ) (τ : Entries) (last : List ℕ) : Type 0 where
+  pub room : length last ≡ 64
+  pub slot : (i : ℕ) → i < 64 → Beside l τ (getD last i 0)
 
-replicate-at : (k i x : ℕ) → i < k → getD (replicate k x) i 0 ≡ x
-replicate-at zero i x h = absurd (not-suc-le-zero h)
-replicate-at (suc k) zero x h = refl
-replicate-at (suc k) (suc i) x h = replicate-at k i x (le-of-suc-le-suc h)
-
-pub filter-start : (l full : ℕ) (τ : Entries) → full ≡ 2 ^ l - 1 → Filter l τ (replicate 64 full) (replicate 64 0)
-filter-start l full τ e = record {
-  cares = length-replicate {A = ℕ} 64 full;
-  values = length-replicate {A = ℕ} 64 0;
-  slot = λ i h. rw (replicate-at 64 i full h, replicate-at 64 i 0 h) (beside-start l full τ e);
+pub filter-start : {l o : ℕ} (τ : Entries) → ZeroKey l o → Filter l τ (replicate 64 o)
+filter-start {o = o} τ z = record {
+  room = length-replicate {A = ℕ} 64 o;
+  slot = λ i h. rw (getD-replicate 64 i o 0 h) (beside-start τ z);
 }
 
 -- the slot s holds y, once the list is grown by it
-pub filter-step : {l : ℕ} {care value : List ℕ} {r : Grown} {τ : Entries} {m s : ℕ} {u : Entry} {fcare fvalue : List ℕ} (y : Trits)
-    → Makes l care value r (grow τ y) → r ≡ Count m → length y ≡ l → u ≡ word y → s < 64 → Filter l τ fcare fvalue
-    → Filter l (strings l care value m) (set fcare s (u .care)) (set fvalue s (u .value))
-filter-step {l = l} {τ = τ} {s = s} {u = u} {fcare = fcare} {fvalue = fvalue} y told e long is lt f =
-    let t = makes-count told e in
-    rw (holds-is (t .2)) (record {
-      cares = length-set fcare s (u .care) ∙ f .cares;
-      values = length-set fvalue s (u .value) ∙ f .values;
-      slot = λ i h. go (t .0) (t .1) i h (eqb i s) refl;
-    })
+pub filter-next : {l : ℕ} {τ τ′ : Entries} {s u : ℕ} {last : List ℕ} (y : Trits) → grow τ y ≡ some τ′ → length y ≡ l
+    → u ≡ key-of y → s < 64 → Filter l τ last → Filter l τ′ (set last s u)
+filter-next {l = l} {τ = τ} {τ′ = τ′} {s = s} {u = u} {last = last} y g long is lt f = record {
+  room = length-set last s u ∙ f .room;
+  slot = λ i h. go i h (eqb i s) refl;
+}
   where
-    go : (ρ : Entries) → grow τ y ≡ some ρ → (i : ℕ) → i < 64 → (b : Bool) → eqb i s ≡ b
-        → Beside l ρ (entry-at (set fcare s (u .care)) (set fvalue s (u .value)) i)
-    go ρ g i h true q =
-        let at : i ≡ s = eqb-true i s q in
-        rw (
-          at,
-          getD-set-same fcare s (u .care) 0 (omega (arith, f .cares)),
-          getD-set-same fvalue s (u .value) 0 (omega (arith, f .values)),
-        )
-        (beside-own τ y g long is)
-    go ρ g i h false q =
-        rw (
-          getD-set-other fcare s i (u .care) 0 (eqb-false i s q),
-          getD-set-other fvalue s i (u .value) 0 (eqb-false i s q),
-        )
-        (beside-kept τ y g (f .slot i h))
+    go : (i : ℕ) → i < 64 → (b : Bool) → eqb i s ≡ b → Beside l τ′ (getD (set last s u) i 0)
+    go i h true q = rw (eqb-true i s q, getD-set-same last s u 0 (omega (arith, f .room))) (beside-own τ y g long is)
+    go i h false q = rw (getD-set-other last s i u 0 (eqb-false i s q)) (beside-kept τ y g (f .slot i h))

@@ -8,6 +8,6 @@ pub mod Converting
 pub mod Scans
 pub mod Checking
 pub mod Idle
-pub mod Passing
 pub mod Keyed
+pub mod Passing
 pub mod Answering

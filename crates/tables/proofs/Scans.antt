@@ -1,7 +1,8 @@
 -- Scans of the indexes below k, by `and` and by `or`: what was found so far, and what is left. Assumes nothing.
 use mathlib.Core.Path.{_≡_, refl, sym, ap, _∙_}
-use mathlib.Core.Bool.{Bool, true, false, _&&_, _||_, and-assoc, and-true, or-assoc, or-false}
-use Prim.Native.Nat.{ℕ, suc, _+_, _-_, _≤_, _<_}
+use mathlib.Core.Bool.{Bool, true, false, _&&_, _||_, and-assoc, and-true, or-assoc, or-false, or-true, true≢false}
+use Prim.Native.Nat.{ℕ, zero, suc, _+_, _-_, _≤_, _<_}
+use native.Mathlib.Nat.{zero-add, add-zero}
 use native.Mathlib.Numerals.{add-one}
 use native.Mathlib.Omega.{arith}
 use Rattle.tables.specs.Lists.{some-from}
@@ -45,3 +46,43 @@ module _ {from : ℕ → ℕ → (ℕ → Bool) → Bool} {op : Bool → Bool �
         ∙ ap (λ (m : ℕ). op so-far (from i m p)) (let z : k - i ≡ 0 = omega arith in z)
         ∙ ap (op so-far) (S .nil i p)
         ∙ S .unit so-far)
+
+-- ---- Blocks of a scan by `or`
+
+module _ (p : ℕ → Bool) where
+  some-split : (i m n : ℕ) → some-from i (m + n) p ≡ (some-from i m p || some-from (i + m) n p)
+  unfolding some-from
+  some-split i zero n = rw (zero-add n, add-zero i)
+  some-split i (suc m) n =
+      let s : suc m + n ≡ suc (m + n) = omega arith in
+      let t : i + suc m ≡ suc i + m = omega arith in
+      rw (s, t)
+      (ap (λ (b : Bool). p i || b) (some-split (suc i) m n) ∙ sym (or-assoc (p i) (some-from (suc i) m p) _))
+
+  -- the indexes below k, cut at i
+  some-parts : (i k : ℕ) → i ≤ k → some-from 0 k p ≡ (some-from 0 i p || some-from i (k - i) p)
+  some-parts i k h =
+      ap (λ (m : ℕ). some-from 0 m p) (let z : k ≡ i + (k - i) = omega arith in z)
+      ∙ some-split 0 i (k - i)
+      ∙ rw (zero-add i)
+
+  -- one is found in a block
+  pub block-found : (i end k : ℕ) → i ≤ end → end ≤ k → some-from i (end - i) p ≡ true → some-from 0 k p ≡ true
+  block-found i end k h le e = some-parts end k le ∙ rw (some-parts i end h, e, or-true)
+
+  -- none is in the next block either
+  pub block-passed : (i end : ℕ) → i ≤ end → some-from 0 i p ≡ false → some-from i (end - i) p ≡ false
+      → some-from 0 end p ≡ false
+  block-passed i end h none e = some-parts i end h ∙ rw (none, e)
+
+  -- the last block, which may start before i, decides
+  pub block-last : (last i k : ℕ) → last ≤ i → last ≤ k → some-from 0 i p ≡ false
+      → some-from last (k - last) p ≡ some-from 0 k p
+  block-last last i k h le none =
+      sym (some-parts last k le
+      ∙ ap (λ (b : Bool). b || some-from last (k - last) p)
+      (neither (some-from 0 last p) _ (sym (some-parts last i h) ∙ none)))
+    where
+      neither : (a b : Bool) → (a || b) ≡ false → a ≡ false
+      neither true b q = absurd (true≢false q)
+      neither false b q = refl

@@ -18,15 +18,15 @@ use Rattle.tables.proofs.Arrays.{holds-is, holds-own}
 
 module _ {S X : Type 0} (step : S → X → Option S) (s : S) (xs : List X) (i : ℕ) where
   module _ (d : X) (lt : i < length xs) where
-    fold-step : (t : S) → step s (getD xs i d) ≡ some t → fold step s (drop i xs) ≡ fold step t (drop (i + 1) xs)
+    pub fold-step : (t : S) → step s (getD xs i d) ≡ some t → fold step s (drop i xs) ≡ fold step t (drop (i + 1) xs)
     unfolding fold _>>=_
     fold-step t e = rw (add-one, drop-cons xs i d lt, e)
 
-    fold-stop : step s (getD xs i d) ≡ none → fold step s (drop i xs) ≡ none
+    pub fold-stop : step s (getD xs i d) ≡ none → fold step s (drop i xs) ≡ none
     unfolding fold _>>=_
     fold-stop e = rw (drop-cons xs i d lt, e)
 
-  fold-end : length xs ≤ i → fold step s (drop i xs) ≡ some s
+  pub fold-end : length xs ≤ i → fold step s (drop i xs) ≡ some s
   unfolding fold
   fold-end h = rw (drop-of-length-le xs h)
 

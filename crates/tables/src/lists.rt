@@ -3,10 +3,10 @@
 use crate::Table;
 use words::Entry;
 ghost use mathlib.Core.Path.{_≡_};
-ghost use mathlib.Core.Bool.{true, cond};
+ghost use mathlib.Core.Bool.{Bool·beq, true, false, cond};
 ghost use mathlib.Core.List.{[], map};
 ghost use mathlib.Core.Option.{some};
-ghost use Prim.Native.Nat.{ℕ, _+_, _≤_, _<_};
+ghost use Prim.Native.Nat.{ℕ, _-_, _≤_, _<_};
 ghost use lib.Dec.{ltb};
 ghost use lib.ListN.{length, getD};
 ghost use Rattle.model.specs.Groups.{Bits};
@@ -14,9 +14,10 @@ ghost use Rattle.model.specs.Strings.{subsumes};
 ghost use Rattle.model.specs.Growth.{Entries, subsumed as subsumed-list, remove, grow as grow-list};
 ghost use Rattle.model.specs.Growth.{widen as widen-list, grow-all as grow-all-list};
 ghost use Rattle.model.specs.Growth.{convert-one as convert-one-list, convert as convert-list};
-ghost use Rattle.words.specs.Words.{word, set, set-word, subsumes-words, within};
-ghost use Rattle.tables.specs.Lists.{Holds, OfString, any, some-from, open-set, Passes, Keys, KeysTo, Within, Makes, Leaves};
-ghost use Rattle.tables.specs.Values.{entry-at, all-from, all-clean, zero-past, all-below as all-below-list};
+ghost use Rattle.words.specs.Words.{word, set, set-word, within, of-key-words};
+ghost use Rattle.tables.specs.Lists.{Holds, OfString, any, open-set, Within, Makes, Leaves};
+ghost use Rattle.tables.specs.Lists.{HoldsKeys, OfKey, ZeroKey, MakesKeys, some-from, Passes};
+ghost use Rattle.tables.specs.Values.{all-from, all-clean, zero-past, all-below as all-below-list};
 
 // The new count of a list, or that it needs entry 257.
 pub enum Grown {
@@ -192,88 +193,12 @@ pub fn widen(care: &[u32; 256], value: &[u32; 256], n: usize, l: u32, y: Entry) 
     z
 }
 
-// Of two strings the one with the lesser care word: a string that subsumes another never has the greater one.
-fn wider(a: Entry, b: Entry) -> Entry
-    ensures { λ r. ⌜ r ≡ cond (ltb (b .care) (a .care)) b a ⌝ }
-{
-    if b.care < a.care {
-        return b;
-    }
-    a
-}
-
-// Does a subsume each of the 8 strings from j on?
-fn subsumes_eight(ycare: &[u32; 256], yvalue: &[u32; 256], j: usize, a: Entry) -> bool
-    requires { ⌜ j ≤ 248 ⌝ }
-    ensures { λ r. ⌜
-        r ≡ all-from j 8 (λ i. subsumes-words a (entry-at (now (ycare .entry)) (now (yvalue .entry)) i))
-        ⌝ }
-{
-    let end = j + 8;
-    let mut all = true;
-    let mut i = j;
-    while i < end {
-        let y = Entry {
-            care: ycare[i],
-            value: yvalue[i],
-        };
-        all = all & words::subsumes(a, y);
-        i += 1;
-    }
-    all
-}
-
-// An index from j up to m with only strings before it that a subsumes. How far it goes, here by whole blocks of 8, is a matter
-// of speed alone.
-fn pass(ycare: &[u32; 256], yvalue: &[u32; 256], j: usize, m: usize, a: Entry) -> usize
-    requires { ⌜ (j ≤ m) × (m ≤ 256) ⌝ }
-    ensures { λ r. ⌜ (j ≤ r) × (r ≤ m) × Passes (now (ycare .entry)) (now (yvalue .entry)) a j r ⌝ }
-{
-    let mut k = j;
-    while 8 <= m - k {
-        if !subsumes_eight(ycare, yvalue, k, a) {
-            return k;
-        }
-        k += 8;
-    }
-    k
-}
-
-// Is a key among the first n within y?
-fn key_subsumed(keys: &[u32; 256], n: usize, y: u32) -> bool
-    requires { ⌜ n ≤ 256 ⌝ }
-    ensures { λ r. ⌜ r ≡ some-from 0 n (λ i. within (getD (now (keys .entry)) i 0) y) ⌝ }
-{
-    let mut found = false;
-    let mut i = 0;
-    while i < n {
-        let k = keys[i];
-        found = found | ((k & y) == k);
-        i += 1;
-    }
-    found
-}
-
-// Is y within a key among the first n?
-fn key_removes(keys: &[u32; 256], n: usize, y: u32) -> bool
-    requires { ⌜ n ≤ 256 ⌝ }
-    ensures { λ r. ⌜ r ≡ some-from 0 n (λ i. within y (getD (now (keys .entry)) i 0)) ⌝ }
-{
-    let mut found = false;
-    let mut i = 0;
-    while i < n {
-        let k = keys[i];
-        found = found | ((y & k) == y);
-        i += 1;
-    }
-    found
-}
-
 // Writes the keys of a list of strings of at most 16 positions.
 fn write_keys(care: &[u32; 256], value: &[u32; 256], n: usize, keys: &mut [u32; 256])
     requires { ⌜ n ≤ 256 ⌝ }
     ensures { λ _. ⌜
-        ((l : ℕ) (τ : Entries) → l ≤ 16 → Holds l (now (care .entry)) (now (value .entry)) n τ → Keys (now (keys .exit)) τ)
+        ((l : ℕ) (τ : Entries) → l ≤ 16 → Holds l (now (care .entry)) (now (value .entry)) n τ
+        → HoldsKeys l (now (keys .exit)) n τ)
         ⌝ }
 {
     // As a slice its length is known.
@@ -288,78 +213,231 @@ fn write_keys(care: &[u32; 256], value: &[u32; 256], n: usize, keys: &mut [u32; 
     }
 }
 
-// The same as `compact`, by the keys, which are written anew where something is removed.
-fn compact_keyed(
-    care: &mut [u32; 256],
-    value: &mut [u32; 256],
-    keys: &mut [u32; 256],
-    n: usize,
-    y: Entry,
-) -> usize
+// Writes the list of n keys over a list of at most n strings.
+fn read_keys(keys: &[u32; 256], n: usize, care: &mut [u32; 256], value: &mut [u32; 256])
     requires { ⌜ n ≤ 256 ⌝ }
-    ensures { λ r. ⌜
-        ((l : ℕ) → l ≤ 16 → OfString l (now (care .entry)) (now (value .entry)) n y (λ τ s. Keys (now (keys .entry)) τ
-        → Holds l (now (care .exit)) (now (value .exit)) r (remove s τ) × Keys (now (keys .exit)) (remove s τ)))
+    ensures { λ _. ⌜
+        ((l k : ℕ) (τ ρ : Entries) → HoldsKeys l (now (keys .entry)) n τ
+        → Holds l (now (care .entry)) (now (value .entry)) k ρ → k ≤ n → Holds l (now (care .exit)) (now (value .exit)) n τ)
         ⌝ }
 {
-    if key_removes(keys, n, words::key(y)) {
-        let k = pack(care, value, n, y);
-        write_keys(care, value, k, keys);
-        return k;
+    let mut i = 0;
+    while i < n {
+        let y = words::of_key(keys[i]);
+        care[i] = y.care;
+        value[i] = y.value;
+        i += 1;
     }
-    n
 }
 
-// Grows the list by x, a string of l positions. With at most 16 positions the scans go over the keys of the entries.
-fn grow_keyed(
-    care: &mut [u32; 256],
-    value: &mut [u32; 256],
-    keys: &mut [u32; 256],
-    n: usize,
-    l: u32,
-    x: Entry,
-) -> Grown
-    requires { ⌜ (n ≤ 256) × (l ≤ 32) ⌝ }
-    ensures within { λ r. ⌜ Within r ⌝ }
+// Is one of the keys from j up to end within y?
+fn some_within(keys: &[u32; 256], j: usize, end: usize, y: u32) -> bool
+    requires { ⌜ (j ≤ end) × (end ≤ 256) ⌝ }
+    ensures { λ r. ⌜ r ≡ some-from j (end - j) (λ i. within (getD (now (keys .entry)) i 0) y) ⌝ }
+{
+    let mut found = false;
+    let mut i = j;
+    while i < end {
+        found = found | words::within(keys[i], y);
+        i += 1;
+    }
+    found
+}
+
+// Is a key among the first n within y? By blocks of 8, up to the first that has one; the last block may overlap the one before.
+fn key_subsumed(keys: &[u32; 256], n: usize, y: u32) -> bool
+    requires { ⌜ n ≤ 256 ⌝ }
+    ensures { λ r. ⌜ r ≡ some-from 0 n (λ i. within (getD (now (keys .entry)) i 0) y) ⌝ }
+{
+    if n < 8 {
+        return some_within(keys, 0, n, y);
+    }
+    let last = n - 8;
+    let mut i = 0;
+    while i < last {
+        let end = i + 8;
+        if some_within(keys, i, end, y) {
+            return true;
+        }
+        i = end;
+    }
+    some_within(keys, last, n, y)
+}
+
+// Is a within each of the 8 keys from j on, or within none, as `wanted` says?
+fn eight_are(keys: &[u32; 256], j: usize, a: u32, wanted: bool) -> bool
+    requires { ⌜ j ≤ 248 ⌝ }
+    ensures { λ r. ⌜ r ≡ all-from j 8 (λ i. Bool·beq (within a (getD (now (keys .entry)) i 0)) wanted) ⌝ }
+{
+    let end = j + 8;
+    let mut all = true;
+    let mut i = j;
+    while i < end {
+        all = all & (words::within(a, keys[i]) == wanted);
+        i += 1;
+    }
+    all
+}
+
+// An index from j up to n with only keys before it that a is within, or is not within, as `wanted` says. How far it goes,
+// here by whole blocks of 8, is a matter of speed alone.
+fn pass(keys: &[u32; 256], j: usize, n: usize, a: u32, wanted: bool) -> usize
+    requires { ⌜ (j ≤ n) × (n ≤ 256) ⌝ }
+    ensures { λ r. ⌜ (j ≤ r) × (r ≤ n) × Passes (now (keys .entry)) a wanted j r ⌝ }
+{
+    let mut k = j;
+    while 8 <= n - k {
+        if !eight_are(keys, k, a, wanted) {
+            return k;
+        }
+        k += 8;
+    }
+    k
+}
+
+// Keeps, in order, the keys that y is not within, given that those before j are such. The number kept.
+fn pack_keys(keys: &mut [u32; 256], j: usize, n: usize, y: u32) -> usize
+    requires { ⌜ (j ≤ n) × (n ≤ 256) ⌝ }
+    ensures within { λ r. ⌜ r ≤ n ⌝ }
     ensures list { λ r. ⌜
-        OfString l (now (care .entry)) (now (value .entry)) n x (λ τ s. KeysTo l (now (keys .entry)) τ
-        → Makes l (now (care .exit)) (now (value .exit)) r (grow-list τ s)
-        × ((ρ : Entries) → grow-list τ s ≡ some ρ → KeysTo l (now (keys .exit)) ρ))
+        ((l : ℕ) → OfKey l (now (keys .entry)) n y (λ τ s.
+        Passes (now (keys .entry)) y false 0 j → HoldsKeys l (now (keys .exit)) r (remove s τ)))
         ⌝ }
 {
-    if 16 < l {
-        return grow(care, value, n, l, x);
+    let mut k = j;
+    let mut i = j;
+    while i < n {
+        let e = keys[i];
+        keys[k] = e;
+        if !words::within(y, e) {
+            k += 1;
+        }
+        i += 1;
     }
-    if words::is_zero(l, x) {
+    k
+}
+
+// Grows the list by the string with the key y; `zero` is the key of the all-zero string.
+fn grow_key(keys: &mut [u32; 256], n: usize, zero: u32, y: u32) -> Grown
+    requires { ⌜ n ≤ 256 ⌝ }
+    ensures within { λ r. ⌜ Within r ⌝ }
+    ensures list { λ r. ⌜
+        ((l : ℕ) → ZeroKey l zero → OfKey l (now (keys .entry)) n y (λ τ s.
+        MakesKeys l (now (keys .exit)) r (grow-list τ s)))
+        ⌝ }
+{
+    if words::within(zero, y) {
         return Grown::Count(n);
     }
-    let key = words::key(x);
-    if key_subsumed(keys, n, key) {
+    if key_subsumed(keys, n, y) {
         return Grown::Count(n);
     }
-    let kept = compact_keyed(care, value, keys, n, x);
+    let j = pass(keys, 0, n, y, false);
+    let kept = pack_keys(keys, j, n, y);
     if kept < Table::ENTRIES {
-        // As a slice its length is known.
-        let whole: &[u32] = &*keys;
-        care[kept] = x.care;
-        value[kept] = x.value;
-        keys[kept] = key;
+        keys[kept] = y;
         Grown::Count(kept + 1)
     } else {
         Grown::Full
     }
 }
 
-// The slot of a string in the filter of `grow_each`. Which one it is, is a matter of speed alone.
-fn slot(y: Entry) -> usize
-    ensures { λ r. ⌜ r < 64 ⌝ }
+// Of two keys the one of the string with the lesser care word: a string that subsumes another never has the greater one.
+fn wider(a: u32, b: u32) -> u32
+    ensures { λ r. ⌜ r ≡ cond (ltb (of-key-words b .care) (of-key-words a .care)) b a ⌝ }
 {
-    (y.value % 61) as usize
+    let ea = words::of_key(a);
+    let eb = words::of_key(b);
+    if eb.care < ea.care {
+        return b;
+    }
+    a
 }
 
-// Grows the list by each of the m entries of another list, in order, up to the first that is full. A string by which growing
-// changes nothing is idle, and so is what it subsumes; growing by that is spared. `idle` is the widest such string met,
-// and `fcare`, `fvalue` hold one for each slot, the last that came there: most strings of a closure come again.
+// The slot of a key in the filter of `grow_keys`. Which one it is, is a matter of speed alone.
+fn slot(y: u32) -> usize
+    ensures { λ r. ⌜ r < 64 ⌝ }
+{
+    (y % 61) as usize
+}
+
+// Grows the list by each of the m strings of another, in order, up to the first that is full, all by their keys. A string by
+// which growing changes nothing is idle, and so is what it subsumes; growing by that is spared. `idle` is the widest such
+// string met, and `last` holds one for each slot, the last that came there: most strings of a closure come again.
+fn grow_keys(keys: &mut [u32; 256], n: usize, zero: u32, ykeys: &[u32; 256], m: usize) -> Grown
+    requires { ⌜ (n ≤ 256) × (m ≤ 256) ⌝ }
+    ensures within { λ r. ⌜ Within r ⌝ }
+    ensures list { λ r. ⌜
+        ((l : ℕ) (τ ρ : Entries) → ZeroKey l zero → HoldsKeys l (now (keys .entry)) n τ
+        → HoldsKeys l (now (ykeys .entry)) m ρ → MakesKeys l (now (keys .exit)) r (grow-all-list τ ρ))
+        ⌝ }
+{
+    let mut last = [zero; 64];
+    let mut k = n;
+    let mut idle = zero;
+    let mut j = 0;
+    while j < m {
+        let y = ykeys[j];
+        j += 1;
+        let s = slot(y);
+        if words::within(idle, y) {
+            j = pass(ykeys, j, m, idle, true);
+        } else if !words::within(last[s], y) {
+            match grow_key(keys, k, zero, y) {
+                Grown::Count(c) => {
+                    k = c;
+                }
+                Grown::Full => {
+                    return Grown::Full;
+                }
+            }
+            idle = wider(idle, y);
+            last[s] = y;
+        }
+    }
+    Grown::Count(k)
+}
+
+// The same for strings of any number of positions, by their care and value.
+fn grow_wide(
+    care: &mut [u32; 256],
+    value: &mut [u32; 256],
+    n: usize,
+    l: u32,
+    ycare: &[u32; 256],
+    yvalue: &[u32; 256],
+    m: usize,
+) -> Grown
+    requires { ⌜ (n ≤ 256) × (l ≤ 32) × (m ≤ 256) ⌝ }
+    ensures within { λ r. ⌜ Within r ⌝ }
+    ensures list { λ r. ⌜
+        ((τ ρ : Entries) → Holds l (now (care .entry)) (now (value .entry)) n τ
+        → Holds l (now (ycare .entry)) (now (yvalue .entry)) m ρ
+        → Makes l (now (care .exit)) (now (value .exit)) r (grow-all-list τ ρ))
+        ⌝ }
+{
+    let mut k = n;
+    let mut j = 0;
+    while j < m {
+        let y = Entry {
+            care: ycare[j],
+            value: yvalue[j],
+        };
+        match grow(care, value, k, l, y) {
+            Grown::Count(c) => {
+                k = c;
+            }
+            Grown::Full => {
+                return Grown::Full;
+            }
+        }
+        j += 1;
+    }
+    Grown::Count(k)
+}
+
+// Grows the list by each of the m entries of another list, in order, up to the first that is full. With at most 16 positions
+// both lists are taken as keys, and the list is written back at the end.
 pub fn grow_each(
     care: &mut [u32; 256],
     value: &mut [u32; 256],
@@ -377,44 +455,28 @@ pub fn grow_each(
         → Makes l (now (care .exit)) (now (value .exit)) r (grow-all-list τ ρ))
         ⌝ }
 {
+    if 16 < l {
+        return grow_wide(care, value, n, l, ycare, yvalue, m);
+    }
     let mut keys = [0u32; 256];
     write_keys(care, value, n, &mut keys);
-    let mut fcare = [words::full(l); 64];
-    let mut fvalue = [0u32; 64];
-    let mut k = n;
-    let mut idle = Entry {
+    let mut ykeys = [0u32; 256];
+    write_keys(ycare, yvalue, m, &mut ykeys);
+    let zero = words::key(Entry {
         care: words::full(l),
         value: 0,
-    };
-    let mut j = 0;
-    while j < m {
-        let y = Entry {
-            care: ycare[j],
-            value: yvalue[j],
-        };
-        j += 1;
-        let s = slot(y);
-        let last = Entry {
-            care: fcare[s],
-            value: fvalue[s],
-        };
-        if words::subsumes(idle, y) {
-            j = pass(ycare, yvalue, j, m, idle);
-        } else if !words::subsumes(last, y) {
-            match grow_keyed(care, value, &mut keys, k, l, y) {
-                Grown::Count(c) => {
-                    k = c;
-                }
-                Grown::Full => {
-                    return Grown::Full;
-                }
+    });
+    match grow_keys(&mut keys, n, zero, &ykeys, m) {
+        Grown::Count(k) => {
+            if k < n {
+                *care = [0u32; 256];
+                *value = [0u32; 256];
             }
-            idle = wider(idle, y);
-            fcare[s] = y.care;
-            fvalue[s] = y.value;
+            read_keys(&keys, k, care, value);
+            Grown::Count(k)
         }
+        Grown::Full => Grown::Full,
     }
-    Grown::Count(k)
 }
 
 // The same. Where that is full, the list is put back as it was.

@@ -1,14 +1,16 @@
--- The key of a string: as its two words make it, and that one key is within another where the strings subsume. Assumes nothing.
+-- The key of a string: as its two words make it, back to them, and that one key is within another where the strings subsume.
+-- Assumes nothing.
 use mathlib.Core.Path.{_≡_, refl, ap, ap₂, _∙_}
 use mathlib.Core.List.{[], _∷_}
 use Prim.Native.Nat.{ℕ, _+_, _*_, _^_, _≤_, _<_}
 use native.Mathlib.Omega.{arith}
-use lib.Bits.{bitAnd, bitOr, bitXor, and-block, xor-block, and-lt, xor-lt, or-shifted}
+use lib.Bits.{bitAnd, bitOr, bitXor, and-block, or-block, xor-block, and-lt, xor-lt, or-shifted}
 use lib.Dec.{eqb}
 use lib.ListN.{length}
-use lib.Pow.{pow-mono, shl-exact}
+use lib.Pow.{pow-mono, shl-exact, high, low}
 use Rattle.model.specs.Strings.{Trit, t0, t1, t*, Trits, subsumes}
-use Rattle.words.specs.Words.{care-bit, value-bit, care-of, value-of, word, zero-bit, zeros-of, key-of, within, key-words}
+use Rattle.words.specs.Words.{care-bit, value-bit, care-of, value-of, word, zero-bit, zeros-of}
+use Rattle.words.specs.Words.{key-of, within, key-words, of-key-words}
 use Rattle.words.proofs.Digits.{care-bit-lt, value-bit-lt, Digitwise, care-l, value-l, care-r, value-r, and-of, xor-of, nine}
 use Rattle.words.proofs.Digits.{eqb-block}
 use Rattle.words.proofs.Words.{subsumes-tests}
@@ -26,6 +28,23 @@ zeros-xor (t ∷ s) =
     xor-block 1 (care-of s) (value-of s) (care-bit t) (value-bit t) (care-bit-lt t) (value-bit-lt t)
     ∙ ap₂ (λ (x y : ℕ). x * 2 + y) (zeros-xor s) (zero-xor t)
 
+care-or : (t : Trit) → bitOr (zero-bit t) (value-bit t) ≡ care-bit t
+care-or t0 = refl
+care-or t1 = refl
+care-or t* = refl
+
+zero-bit-lt : (t : Trit) → zero-bit t < 2 ^ 1
+zero-bit-lt t0 = omega arith
+zero-bit-lt t1 = omega arith
+zero-bit-lt t* = omega arith
+
+cares-or : (s : Trits) → bitOr (zeros-of s) (value-of s) ≡ care-of s
+unfolding care-of value-of zeros-of
+cares-or [] = refl
+cares-or (t ∷ s) =
+    or-block 1 (zeros-of s) (value-of s) (zero-bit t) (value-bit t) (zero-bit-lt t) (value-bit-lt t)
+    ∙ ap₂ (λ (x y : ℕ). x * 2 + y) (cares-or s) (care-or t)
+
 -- both halves have 16 bits
 module _ (s : Trits) (short : length s ≤ 16) where
   value-half : value-of s < 2 ^ 16
@@ -42,6 +61,12 @@ module _ (s : Trits) (short : length s ≤ 16) where
       rw (zeros-xor s)
       (ap (λ (x : ℕ). bitOr x (value-of s)) (shl-exact 16 16 32 zeros-half (omega arith))
       ∙ or-shifted (zeros-of s) 16 (value-of s) value-half)
+
+  pub of-key-word : of-key-words (key-of s) ≡ word s
+  unfolding of-key-words key-of
+  of-key-word =
+      rw (high (zeros-of s) 16 value-half, low (zeros-of s) 16 value-half)
+      (λ i. record { care = cares-or s i; value = value-of s })
 
 zeros-l : Digitwise (λ p q r s. bitXor p q)
 zeros-l = xor-of _ _ care-l value-l

@@ -104,6 +104,10 @@ subsumes-words a b = eqb (bitAnd (a .care) (b .care)) (a .care) && eqb (bitAnd (
 unfoldable pub key-words : Entry → ℕ
 key-words a = bitOr ((bitXor (a .care) (a .value) * 2 ^ 16) % 2 ^ 32) (a .value)
 
+-- Value is the low half, and care both halves.
+unfoldable pub of-key-words : ℕ → Entry
+of-key-words k = record { care = bitOr (k / 2 ^ 16) (k % 65536); value = k % 65536 }
+
 -- The values agree where both are fixed.
 unfoldable pub matches-words : Entry → Entry → Bool
 matches-words a b = eqb (bitAnd (a .value) (b .care)) (bitAnd (b .value) (a .care))

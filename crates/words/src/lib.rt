@@ -10,7 +10,8 @@ ghost use Rattle.model.specs.Strings.{Trits, subsumes as subsumes-string, match
 ghost use Rattle.model.specs.Strings.{or-strings, all-zero, fixed as fixed-string, fixed-count, flipped as flipped-string};
 ghost use Rattle.model.specs.Strings.{starred as starred-string, opposed as opposed-string};
 ghost use Rattle.words.specs.Words.{word, set-word, subsumes-words, matches-words, meet-words, or-words, zero-words};
-ghost use Rattle.words.specs.Words.{key-of, key-words, fixed-words, flipped-words, starred-words, opposed-words};
+ghost use Rattle.words.specs.Words.{key-of, key-words, of-key-words, within as within-word};
+ghost use Rattle.words.specs.Words.{fixed-words, flipped-words, starred-words, opposed-words};
 ghost use Rattle.words.specs.Words.{openings as openings-string, lacks-word, openings-of, gather, cut-words};
 
 // Bit i of `care` is 1 where position i is fixed; bit i of `value` is its value there, and 0 where it is `*`.
@@ -34,6 +35,28 @@ pub fn key(a: Entry) -> u32
     ensures strings { λ r. ⌜ ((s : Trits) → length s ≤ 16 → a ≡ word s → r ≡ key-of s) ⌝ }
 {
     ((a.care ^ a.value) << 16) | a.value
+}
+
+// The string of at most 16 positions with the key k.
+pub fn of_key(k: u32) -> Entry
+    ensures words { λ r. ⌜ r ≡ of-key-words k ⌝ }
+    ensures strings { λ r. ⌜ ((s : Trits) → length s ≤ 16 → k ≡ key-of s → r ≡ word s) ⌝ }
+{
+    let ones = k % 65536;
+    Entry {
+        care: (k >> 16) | ones,
+        value: ones,
+    }
+}
+
+// Is the key a within the key b?
+pub fn within(a: u32, b: u32) -> bool
+    ensures words { λ r. ⌜ r ≡ within-word a b ⌝ }
+    ensures strings { λ r. ⌜
+        ((s t : Trits) → length s ≡ length t → length s ≤ 16 → a ≡ key-of s → b ≡ key-of t → r ≡ subsumes-string s t)
+        ⌝ }
+{
+    (a & b) == a
 }
 
 // Are a and b equal at each position, or is one `*`?

@@ -9,10 +9,10 @@ use Rattle.tables.proofs.lists.pass.Statement.{statement}
 use Rattle.tables.proofs.lists.pass.Tie as tie
 
 abbrev Inv-loop : tie.InvT-loop
-Inv-loop ycare yvalue j m a k₀ k = (j ≤ k) × (k ≤ m) × Passes ycare yvalue a j k
+Inv-loop keys j n a wanted k₀ k = (j ≤ k) × (k ≤ n) × Passes keys a wanted j k
 
 abbrev μ-loop : tie.MeasureT-loop
-μ-loop ycare yvalue j m a k₀ k = m - k
+μ-loop keys j n a wanted k₀ k = n - k
 
 loop-holds : tie.Need-loop-holds Inv-loop μ-loop
 loop-holds c = (omega arith, omega arith, λ i h k. absurd (omega arith))
@@ -20,8 +20,8 @@ loop-holds c = (omega arith, omega arith, λ i h k. absurd (omega arith))
 sub-loop : tie.Need-sub-loop Inv-loop μ-loop
 sub-loop c = search needs
 
-subsumes-eight-requires : tie.Need-subsumes-eight-requires Inv-loop μ-loop
-subsumes-eight-requires c κs = search needs
+eight-are-requires : tie.Need-eight-are-requires Inv-loop μ-loop
+eight-are-requires c κs = search needs
 
 returns : tie.Need-returns Inv-loop μ-loop
 returns c = c .before .before .before .loop .inv
@@ -38,9 +38,8 @@ loop-again c =
     let g = c .before .before .before .before .args in (
       omega arith,
       omega arith,
-      passes-join (g .ycare .now) (g .yvalue .now) _ _ (lp .k) _ (lp .inv .2)
-          (passes-all (g .ycare .now) (g .yvalue .now) _ (lp .k) 8
-          (sym (c .before .subsumes-eight .ensures) ∙ not-false _ (c .if1 .left))),
+      passes-join (g .keys .now) _ _ _ (lp .k) _ (lp .inv .2)
+          (passes-all (g .keys .now) _ _ (lp .k) 8 (sym (c .before .eight-are .ensures) ∙ not-false _ (c .if1 .left))),
     )
 
 returns-2 : tie.Need-returns-2 Inv-loop μ-loop
@@ -50,4 +49,13 @@ pub pass-spec : {M : Type 1} → statement M
 pass-spec =
     tie.close
     (tie.spec
-    Inv-loop μ-loop loop-holds sub-loop subsumes-eight-requires returns add-k loop-less loop-again returns-2)
+    Inv-loop
+    μ-loop
+    loop-holds
+    sub-loop
+    eight-are-requires
+    returns
+    add-k
+    loop-less
+    loop-again
+    returns-2)

@@ -1,26 +1,28 @@
 use mathlib.Core.Path.{_≡_, _∙_}
 use mathlib.Core.List.{[]}
-use Prim.Native.Nat.{ℕ, _-_, _≤_}
+use Prim.Native.Nat.{ℕ, _-_, _≤_, _<_}
 use native.Mathlib.Nat.{not-suc-le-zero}
 use native.Mathlib.Omega.{arith}
-use lib.ListN.{length, getD, take, length-set}
+use lib.ListN.{length, getD, length-set}
 use Rattle.model.specs.Growth.{Entries}
-use Rattle.tables.specs.Lists.{Holds, Keys}
+use Rattle.words.specs.Words.{key-of}
+use Rattle.tables.specs.Lists.{Holds}
 use Rattle.tables.proofs.Arrays.{holds-at, holds-length}
-use Rattle.tables.proofs.Keyed.{keys-turn, keys-end}
+use Rattle.tables.proofs.Keyed.{run-turn}
 use borrow.Author.Needs.{needs}
 use Rattle.tables.proofs.lists.write_keys.Statement.{statement}
 use Rattle.tables.proofs.lists.write_keys.Tie as tie
 
 abbrev Inv-loop : tie.InvT-loop
 Inv-loop care value n keys₀ i₀ keys i =
-    (i ≤ n) × (length keys ≡ 256) × ((l : ℕ) (τ : Entries) → l ≤ 16 → Holds l care value n τ → Keys keys (take i τ))
+    (i ≤ n) × (length keys ≡ 256)
+    × ((l : ℕ) (τ : Entries) → l ≤ 16 → Holds l care value n τ → (m : ℕ) → m < i → getD keys m 0 ≡ key-of (getD τ m []))
 
 abbrev μ-loop : tie.MeasureT-loop
 μ-loop care value n keys₀ i₀ keys i = n - i
 
 loop-holds : tie.Need-loop-holds Inv-loop μ-loop
-loop-holds c = (omega arith, c .whole2 .given .0, λ l τ short h i lt. absurd (not-suc-le-zero lt))
+loop-holds c = (omega arith, c .whole2 .given .0, λ l τ short h m lt. absurd (not-suc-le-zero lt))
 
 mul-t10 : tie.Need-mul-t10 Inv-loop μ-loop
 mul-t10 c = search needs
@@ -56,14 +58,20 @@ loop-again c =
       length-set (lp .keys) (lp .i) _ ∙ lp .inv .1,
       λ l τ short h.
           let long = holds-length h (lp .i) (omega arith) in
-          keys-turn (lp .keys) τ (lp .i) _ (lp .inv .2 l τ short h) (omega (arith, h .count)) (omega (arith, lp .inv .1))
+          run-turn (lp .keys) (λ m. key-of (getD τ m [])) (lp .i) _ (omega (arith, lp .inv .1)) (lp .inv .2 l τ short h)
           (c .key .ensures .1 (getD τ (lp .i) []) (rw long short) (holds-at h (lp .i) (omega arith))),
     )
 
 returns : tie.Need-returns Inv-loop μ-loop
 returns c =
     let lp = c .before .loop in
-    λ l τ short h. keys-end (lp .keys) τ (lp .i) (lp .inv .2 l τ short h) (omega (arith, h .count))
+    λ l τ short h. record {
+      here = λ m lt. lp .inv .2 l τ short h m (omega arith);
+      room = lp .inv .1;
+      count = h .count;
+      good = h .good;
+      short = short;
+    }
 
 pub write-keys-spec : {M : Type 1} → statement M
 write-keys-spec =
