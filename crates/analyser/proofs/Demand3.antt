@@ -1,15 +1,15 @@
 -- Demand 3 of the calls themselves: for every list of equation calls, on table values and on byte buffers, refused ones
--- included, from any good table of either side, whatever admitted unifier is applied at each accepted one, the table after the
--- list describes the bindings after it; and the same of the running analysis and of a run, wherever it stops. Assumes nothing.
+-- included, from any good table of either side, whatever admitted unifier is applied at each accepted one, the table after
+-- the
+-- list describes the bindings after it; and the same of the running analysis and of a run, wherever it stops. Assumes
+-- nothing.
 use mathlib.Core.Path.{_≡_, refl, sym, ap, subst, _∙_}
-use mathlib.Core.List.{List, [], _∷_, map}
+use mathlib.Core.List.{List, [], _∷_}
 use mathlib.Core.Logic.{_⊎_, inl, inr}
-use mathlib.Core.Option.{Option, some, none}
-use Prim.Native.Nat.{ℕ, zero, suc, _+_, _-_, _≤_, _<_}
+use mathlib.Core.Option.{none}
+use Prim.Native.Nat.{ℕ, suc, _+_, _-_, _≤_}
 use native.Mathlib.Omega.{arith}
-use lib.ListN.{length, take}
-use Rattle.model.specs.Growth.{Entries}
-use Rattle.model.specs.Terms.{Term}
+use lib.ListN.{length}
 use Rattle.model.specs.Tables.{Side}
 use Rattle.model.specs.Bindings.{Bindings, Describes}
 use Rattle.model.specs.Calls.{Event, accepted, refused, Reaches}
@@ -19,24 +19,23 @@ use Rattle.tables.specs.declared.Answer.{Answer}
 use Rattle.tables.specs.declared.Answer.the-variants.{Accepted, Refused}
 use Rattle.tables.specs.declared.Answered.{Answered}
 use Rattle.tables.specs.Refusals.{answer-number}
-use Rattle.tables.specs.Values.{zero-table, accepts, refuses, made-or-full, check-table, GoodTable}
+use Rattle.tables.specs.Values.{accepts, refuses, GoodTable}
 use Rattle.tables.proofs.Checking.{good-passes}
-use Rattle.terms.specs.Checks as C
 use Rattle.sharing.specs.Calls.{side-told, after-check, equation-call}
 use Rattle.sharing.specs.Outcomes.{groups-of}
 use Rattle.forms.specs.declared.Extent.the-variants.{Whole, Front}
 use Rattle.forms.specs.Tables.{first-size, second-size, read-table, table-form, write-answer, written}
-use Rattle.forms.specs.Equations.{Written, after-equation, check-each, check-equations, equations-of}
-use Rattle.forms.proofs.Tests.{equations-passed}
+use Rattle.forms.specs.Equations.{Written, check-equations, equations-of}
 use Rattle.forms.proofs.Reading.{read-good}
 use Rattle.forms.proofs.Back.{written-front}
-use Rattle.byte_calls.specs.Calls.{check-bytes, tokens-of, term-call, after-read, equation-bytes, put-checked, put-answer, put-bytes}
+use Rattle.byte_calls.specs.Calls.{check-bytes, tokens-of, term-call, after-read, equation-bytes, put-checked, put-answer}
+use Rattle.byte_calls.specs.Calls.{put-bytes}
 use Rattle.running.specs.declared.Running.{Running}
-use Rattle.running.specs.States.{state, counted, after-answer, advanced, go-on, run-from, run-state}
+use Rattle.running.specs.States.{state, after-answer, advanced, go-on, run-from, run-state}
 use Rattle.analyser.specs.Demand3.{equation-given, event-of, Returns, kept, Calls, end, value, bytes, Step, steps}
-use Rattle.analyser.specs.Demand3.{step-answer, step-events, run-events}
+use Rattle.analyser.specs.Demand3.{step-events, run-events}
 use Rattle.analyser.specs.Demand3 as S
-use Rattle.analyser.proofs.Equations.{called, accepted-exact, refused-kept, stepped}
+use Rattle.analyser.proofs.Equations.{accepted-exact, refused-kept, stepped}
 
 -- ---- A call with its term as bytes
 
@@ -98,7 +97,8 @@ module _ (side : Side) (t : Table) (x : ℕ) (term out : List ℕ) (good : GoodT
   unfolding put-answer put-checked
   went e = go (a .answer) refl e
     where
-      go : (y : Answer) → a .answer ≡ y → put-checked y (write-answer (a .table) (length out)) ≡ Accepted → a .answer ≡ Accepted
+      go : (y : Answer) → a .answer ≡ y → put-checked y (write-answer (a .table) (length out)) ≡ Accepted → a .answer ≡
+          Accepted
       go Accepted h q = h
       go (Refused r) h q = absurd (let z : _≡_ {A = ℕ} 0 1 = cc in omega arith)
 
@@ -108,7 +108,8 @@ module _ (side : Side) (t : Table) (x : ℕ) (term out : List ℕ) (good : GoodT
       let same = term-accepted side t x term good (went e) in
       let m = accepted-exact side t x (tokens-of term) good (ap (λ (y : Answered). y .answer) (sym same) ∙ went e) in
       rw e
-      (subst (λ (y : Answered). read-table Front (written Accepted (table-form (y .table)) out) ≡ accepts (y .table)) (sym same)
+      (subst (λ (y : Answered). read-table Front (written Accepted (table-form (y .table)) out) ≡ accepts (y .table))
+      (sym same)
       (written-front (on-tokens side t x term good .table) out (m .is-good) (m .reduced)))
 
   bytes-stepped : (w : Answer) (u : Table) → put-answer a out ≡ w → Returns t (put-bytes a out) w u
@@ -134,7 +135,8 @@ calls-described side (bytes b t x term out {t′} {events} reads returns rest) g
     let same = bytes-called side b t x term reads in
     let g = bytes-stepped side t x term out good (put-answer (term-call side t x term) out) t′ refl
     (subst (λ (y : Answered). Returns t (put-bytes y out) (put-answer y out) t′) same returns) events θ θ′ d
-    (subst (λ (y : Answered). Reaches θ (event-of (put-answer y out) (equation-given (t .l) x (tokens-of term)) ∷ events) θ′) same r) in
+    (subst (λ (y : Answered). Reaches θ (event-of (put-answer y out) (equation-given (t .l) x (tokens-of term)) ∷ events)
+    θ′) same r) in
     calls-described side rest (g .1) (g .0) θ′ (g .2) (g .3)
 
 -- ---- The running analysis
@@ -179,7 +181,8 @@ module _ (side : ℕ) where
       → GoodTable (r .table) × Describes (groups-of (side-told side) (r .table)) θ′
 
   -- where none is applied the table stays
-  none-follows : (t : Table) (k : ℕ) (ws : List Written) (r : Running) → r .applied ≡ k → (GoodTable t → r .table ≡ t) → Follows t k ws r
+  none-follows : (t : Table) (k : ℕ) (ws : List Written) (r : Running) → r .applied ≡ k → (GoodTable t → r .table ≡ t) →
+      Follows t k ws r
   unfolding run-events Reaches
   none-follows t k ws r e same good θ θ′ d s =
       let none : r .applied - k ≡ 0 = omega (arith, e) in

@@ -1,14 +1,13 @@
 -- What one equation call does on a good table: where it is accepted, where it is refused, and to bindings. Assumes nothing.
 use mathlib.Core.Path.{_≡_, refl, sym, ap, subst, _∙_}
 use mathlib.Core.Bool.{Bool, true, false, cond}
-use mathlib.Core.List.{List, [], _∷_}
+use mathlib.Core.List.{List, _∷_}
 use mathlib.Core.Logic.{⊎-map}
 use mathlib.Core.Option.{Option, some, none}
 use Prim.Native.Nat.{ℕ}
 use native.Mathlib.Omega.{arith}
 use lib.Dec.{leb}
 use lib.ListN.{length}
-use Rattle.model.specs.Groups.{Bits, Groups}
 use Rattle.model.specs.Growth.{Entries, Reduced}
 use Rattle.model.specs.Terms.{Term}
 use Rattle.model.specs.Tokens.{named, whole-term}
@@ -25,7 +24,7 @@ use Rattle.tables.specs.declared.Refusal.the-variants as R
 use Rattle.tables.specs.declared.Answer.{Answer}
 use Rattle.tables.specs.declared.Answer.the-variants.{Accepted, Refused}
 use Rattle.tables.specs.declared.Answered.{Answered}
-use Rattle.tables.specs.Values.{table-of, entries-of, accepts, refuses, made-or-full, check-table, GoodTable}
+use Rattle.tables.specs.Values.{table-of, entries-of, refuses, made-or-full, GoodTable}
 use Rattle.tables.proofs.Values.{entries-of-table, table-of-good}
 use Rattle.tables.proofs.Checking.{good-passes}
 use Rattle.terms.specs.Checks as C

@@ -6,7 +6,8 @@ use Rattle.tables.specs.declared.Answered.{Answered}
 use Rattle.questions.specs.declared.Reply.{Reply}
 use Rattle.byte_calls.specs.Calls.{put-number, put-bytes, reply-number, reply-word}
 
-pub putting : (out : List ℕ) {a a′ : Answered} {r : ℕ} {out′ : List ℕ} → a ≡ a′ → r ≡ put-number a out → out′ ≡ put-bytes a out
+pub putting : (out : List ℕ) {a a′ : Answered} {r : ℕ} {out′ : List ℕ} → a ≡ a′ → r ≡ put-number a out → out′ ≡ put-bytes
+    a out
     → (r ≡ put-number a′ out) × (out′ ≡ put-bytes a′ out)
 putting out e n b = (n ∙ ap (λ (x : Answered). put-number x out) e, b ∙ ap (λ (x : Answered). put-bytes x out) e)
 

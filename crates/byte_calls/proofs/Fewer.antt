@@ -5,7 +5,7 @@ use mathlib.Core.List.{List}
 use Prim.Native.Nat.{ℕ, _≤_, _<_}
 use borrow.Author.Tests.{leb-true, eq-eqb, ne-eqb, lt-ltb, le-ltb}
 use lib.Dec.{ltb, eqb}
-use lib.ListN.{length, take}
+use lib.ListN.{length}
 use Rattle.tables.specs.declared.Refusal.{Refusal}
 use Rattle.tables.specs.declared.Answer.the-variants.{Accepted, Refused}
 use Rattle.tables.specs.declared.Answered.{Answered}
@@ -50,7 +50,8 @@ module _ (p q : Part) {a b : Answered} (ea : a ≡ read-table Front (p .bytes)) 
       unfolding if-both
       unlike f = let g = as-read in rw (good, too, ne-eqb (a .table .l) (b .table .l) f) at g
 
-      module _ (same : a .table .l ≡ b .table .l) {m n : ℕ} (em : m ≡ second-size (p .bytes)) (en : n ≡ second-size (q .bytes)) where
+      module _ (same : a .table .l ≡ b .table .l) {m n : ℕ} (em : m ≡ second-size (p .bytes))
+          (en : n ≡ second-size (q .bytes)) where
         pub fewer-negative : n < m → front (table-length n) q ≡ smaller-part p q
         unfolding if-both
         fewer-negative lt =

@@ -1,8 +1,8 @@
 -- How a call goes on after its parts: one law for each way. Assumes nothing.
 use mathlib.Core.Path.{_≡_, refl, sym, ap, _∙_}
-use mathlib.Core.Bool.{Bool, true, false, cond}
+use mathlib.Core.Bool.{Bool, true, false}
 use mathlib.Core.List.{List}
-use Prim.Native.Nat.{ℕ, _+_, _*_, _/_, _%_, _≤_}
+use Prim.Native.Nat.{ℕ, _/_, _≤_}
 use native.Mathlib.Omega.{arith}
 use borrow.Author.Tests.{leb-true}
 use lib.Dec.{leb}
@@ -25,7 +25,8 @@ use Rattle.codec.specs.Numbers.{numbers, with-zeros}
 use Rattle.codec.proofs.Laws.{length-numbers}
 use Rattle.forms.specs.declared.Extent.the-variants.{Whole}
 use Rattle.forms.specs.Tables.{read-table, table-form, write-answer, written}
-use Rattle.byte_calls.specs.Calls.{check-bytes, tokens-of, term-call, after-read, ask-read, put-checked, put-answer, put-number}
+use Rattle.byte_calls.specs.Calls.{check-bytes, tokens-of, term-call, after-read, ask-read, put-checked, put-answer}
+use Rattle.byte_calls.specs.Calls.{put-number}
 use Rattle.byte_calls.specs.Calls.{put-bytes}
 
 -- ---- After a table was read

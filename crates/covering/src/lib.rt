@@ -8,7 +8,7 @@ ghost use Prim.Native.Nat.{ℕ, _^_, _≤_, _<_};
 ghost use lib.Bits.{bitAnd, bitOr, bitXor};
 ghost use lib.ListN.{length, getD};
 ghost use Rattle.model.specs.Groups.{Bits, meets};
-ghost use Rattle.model.specs.Strings.{Trits, covers, matches, fixed, one-at};
+ghost use Rattle.model.specs.Strings.{Trits, covers, matches, fixed};
 ghost use Rattle.model.specs.Growth.{Entries, covered as covered-list};
 ghost use Rattle.model.specs.Tables.{Side, positive, negative};
 ghost use Rattle.model.specs.Questions.{equal as equal-lists, ground, independent};

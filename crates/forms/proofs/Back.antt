@@ -64,7 +64,12 @@ all-up p i (suc n) f = rw (f i (omega arith)) (all-up p (suc i) n (λ m lt. f m 
 clean-word : (l : ℕ) (s : Trits) → length s ≡ l → clean l (word s) ≡ true
 unfolding clean
 clean-word l s e =
-    rw (← e, lt-ltb (care-of s) (2 ^ length s) (care-lt s), eq-eqb (bitAnd (value-of s) (care-of s)) (value-of s) (value-in s))
+    rw (
+      ← e,
+      lt-ltb (care-of s) (2 ^ length s) (care-lt s),
+      eq-eqb (bitAnd (value-of s) (care-of s)) (value-of s)
+          (value-in s),
+    )
 
 -- ---- The words of a good table value
 

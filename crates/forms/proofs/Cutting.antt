@@ -1,28 +1,24 @@
 -- Forms that are cut short or followed by more bytes. Assumes nothing.
 use mathlib.Core.Path.{_≡_, refl, sym, ap, _∙_}
-use mathlib.Core.Bool.{Bool, true, false, _&&_, cond}
+use mathlib.Core.Bool.{Bool, true, false, cond}
 use mathlib.Core.List.{List, [], _∷_, _++_}
 use Prim.Native.Nat.{ℕ, zero, suc, _+_, _*_, _≤_, _<_}
 use native.Mathlib.Omega.{arith}
 use borrow.Author.Tests.{leb-true, eqb-true, lt-leb, le-leb, ne-eqb}
-use lib.Dec.{leb, eqb}
 use lib.ListN.{length, getD, take, drop, length-append, length-take, length-drop, List·getD-append}
 use lib.Seq.{getD-take, drop-append-le}
 use Rattle.tables.specs.declared.Table.{Table}
-use Rattle.tables.specs.declared.Refusal.{Refusal}
 use Rattle.tables.specs.declared.Refusal.the-variants as R
-use Rattle.tables.specs.declared.Answer.{Answer}
 use Rattle.tables.specs.declared.Answer.the-variants.{Accepted, Refused}
 use Rattle.tables.specs.Values.{zero-table, accepts, refuses}
-use Rattle.terms.specs.Checks.{most-tokens}
 use Rattle.codec.specs.Numbers.{numbers, sum}
 use Rattle.forms.specs.declared.Extent.{Extent}
 use Rattle.forms.specs.declared.Extent.the-variants.{Whole, Front}
 use Rattle.forms.specs.Tables.{sized, first-size, second-size, table-length, fits, written-entries}
 use Rattle.forms.specs.Tables.{read-entries, read-sized, read-table}
-use Rattle.forms.specs.Equations.{most-equations, equations-length, equations-of, check-sized}
+use Rattle.forms.specs.Equations.{equations-length, equations-of, check-sized}
 use Rattle.forms.specs.Equations.{share-out, check-each, check-equations}
-use Rattle.forms.proofs.Tests.{held, grown-table, Passed, reads-passed, equations-passed}
+use Rattle.forms.proofs.Tests.{grown-table, Passed, reads-passed, equations-passed}
 
 -- ---- The sizes at the front
 

@@ -1,12 +1,11 @@
 -- The arrays that a reader fills hold the entries that are written. Assumes nothing.
-use mathlib.Core.Path.{_≡_, refl, sym, ap, ap₂, subst, _∙_}
+use mathlib.Core.Path.{_≡_, refl, ap, ap₂, subst, _∙_}
 use mathlib.Core.Bool.{Bool, true, _&&_}
 use mathlib.Core.List.{List, [], _∷_, _++_, map}
 use Prim.Native.Nat.{ℕ, zero, suc, _+_, _-_, _*_, _≤_, _<_}
-use native.Mathlib.Nat.{not-suc-le-zero, zero-add, add-zero}
+use native.Mathlib.Nat.{zero-add, add-zero}
 use native.Mathlib.Omega.{arith}
-use lib.Dec.{eqb}
-use lib.ListN.{length, getD, take, drop, replicate, length-append, length-replicate, getD-replicate, List·getD-append}
+use lib.ListN.{length, getD, take, drop, length-append, length-replicate, getD-replicate, List·getD-append}
 use lib.Seq.{getD-append-add}
 use Rattle.model.specs.Growth.{limit}
 use Rattle.words.specs.declared.Entry.{Entry}
@@ -14,7 +13,7 @@ use Rattle.words.specs.Words.{string}
 use Rattle.tables.specs.Lists.{Holds, pairs, strings}
 use Rattle.tables.specs.Values.{clean, is-zero, entry-at, all-from, all-clean, zero-past}
 use Rattle.tables.proofs.Checking.{checked-holds}
-use Rattle.codec.specs.Numbers.{numbers, with-zeros}
+use Rattle.codec.specs.Numbers.{with-zeros}
 use Rattle.codec.proofs.Laws.{length-numbers}
 use Rattle.forms.specs.Tables.{cares, values, written-entries}
 
@@ -95,4 +94,5 @@ module _ (l n : ℕ) (b : List ℕ) (few : n ≤ limit) where
   pub decoded : all-clean l n care value ≡ true → Holds l care value n (written-entries l n b)
   decoded h =
       rw (← same-strings)
-      (checked-holds l care value n (zeros-length n (cares n b) care-row few) (zeros-length n (values n b) value-row few) few h past)
+      (checked-holds l care value n (zeros-length n (cares n b) care-row few) (zeros-length n (values n b) value-row few)
+      few h past)

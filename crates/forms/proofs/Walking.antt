@@ -1,6 +1,6 @@
 -- The walk over written equations: from the equation at index k on, with the tokens from an index on. Assumes nothing.
 use mathlib.Core.Path.{_≡_, refl, sym, ap, ap₂, _∙_}
-use mathlib.Core.List.{List, [], _∷_, _++_}
+use mathlib.Core.List.{List, [], _∷_}
 use Prim.Native.Nat.{ℕ, zero, suc, _+_, _-_, _*_, _≤_, _<_}
 use native.Mathlib.Numerals.{add-one}
 use native.Mathlib.Omega.{arith}
@@ -93,7 +93,8 @@ module _ (e m : ℕ) (b : List ℕ) where
     unfolding share-out
     later-next =
         rw (row-from e 4 k x b lt ex, counts-from)
-        (ap (λ (ts : List ℕ). this ∷ share-out (drop (k + 1) (lefts e b)) (drop (k + 1) (counts e b)) ts) (drop-drop n at tokens))
+        (ap (λ (ts : List ℕ). this ∷ share-out (drop (k + 1) (lefts e b)) (drop (k + 1) (counts e b)) ts)
+        (drop-drop n at tokens))
 
     module _ (here : Place k at) where
       pub place-next : Place (k + 1) (at + n)
@@ -125,13 +126,16 @@ module _ (l e m : ℕ) (b : List ℕ) where
   unfolding check-each
   walk-end k at le w = ap (check-each l) (sym (later-none e m b k at le)) ∙ w .1
 
-  module _ (k at x n : ℕ) (lt : k < e) (ex : x ≡ number-at b (4 + 2 * k)) (en : n ≡ number-at b (4 + 2 * e + 2 * k)) (w : Walk k at)
+  module _ (k at x n : ℕ) (lt : k < e) (ex : x ≡ number-at b (4 + 2 * k)) (en : n ≡ number-at b (4 + 2 * e + 2 * k))
+      (w : Walk k at)
       {row : List ℕ} (filled : row ≡ with-zeros most-tokens (tokens e m b)) {c : Checked}
       (told : c ≡ checked l (check-equation l x (take (at + n - at) (drop at row)))) where
     told-here : c ≡ checked l (check-equation l x (this e m b k at x n lt ex en .tokens))
-    told-here = told ∙ ap (λ (s : List ℕ). checked l (check-equation l x s)) (this-part e m b k at x n lt ex en (w .0) filled)
+    told-here = told ∙ ap (λ (s : List ℕ). checked l (check-equation l x s))
+        (this-part e m b k at x n lt ex en (w .0) filled)
 
-    walk-next : after-equation (check-equation l x (this e m b k at x n lt ex en .tokens)) (check-each l (later e m b (k + 1) (at + n)))
+    walk-next : after-equation (check-equation l x (this e m b k at x n lt ex en .tokens))
+        (check-each l (later e m b (k + 1) (at + n)))
         ≡ check-each l (equations-of e m b)
     unfolding check-each
     walk-next = ap (check-each l) (sym (later-next e m b k at x n lt ex en)) ∙ w .1

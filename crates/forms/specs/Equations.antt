@@ -1,5 +1,5 @@
 -- The written form of equations (01, "Written form" and "Refusals"): sizes e and m, e left variables, e token counts, m tokens.
-use mathlib.Core.Bool.{Bool, _&&_, cond}
+use mathlib.Core.Bool.{_&&_, cond}
 use mathlib.Core.List.{List, [], _∷_}
 use Prim.Native.Nat.{ℕ, _+_, _*_}
 use lib.Dec.{leb, eqb}

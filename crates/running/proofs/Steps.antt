@@ -1,6 +1,6 @@
 -- A run equation by equation, and what a state comes to. Assumes nothing.
 use mathlib.Core.Path.{_≡_, refl, sym, ap, _∙_}
-use mathlib.Core.List.{List, [], _∷_}
+use mathlib.Core.List.{List}
 use Prim.Native.Nat.{ℕ, _+_, _-_, _*_, _≤_, _<_}
 use native.Mathlib.Omega.{arith}
 use borrow.Author.Tests.{leb-true}
@@ -9,7 +9,6 @@ use lib.ListN.{length, take, drop}
 use Rattle.model.specs.Tables.{Side}
 use Rattle.tables.specs.declared.Table.{Table}
 use Rattle.tables.specs.declared.Refusal.{Refusal}
-use Rattle.tables.specs.declared.Answer.{Answer}
 use Rattle.tables.specs.declared.Answer.the-variants.{Accepted, Refused}
 use Rattle.tables.specs.declared.Answered.{Answered}
 use Rattle.tables.specs.Refusals.{refusal-number, answer-number}
@@ -54,7 +53,8 @@ module _ (side e m : ℕ) (q : List ℕ) (t : Table) where
   pub going-end : (u : Table) (k at : ℕ) → k ≡ e → Going u k at → state 0 side e u ≡ whole
   unfolding run-from
   going-end u k at d w =
-      ap (λ (j : ℕ). state 0 side j u) (sym d) ∙ ap (run-from side u k) (sym (later-none e m q k at (omega (arith, d)))) ∙ w .1
+      ap (λ (j : ℕ). state 0 side j u) (sym d) ∙ ap (run-from side u k) (sym (later-none e m q k at (omega (arith, d)))) ∙
+      w .1
 
   module _ (u : Table) (k at x n : ℕ) (lt : k < e) (ex : x ≡ number-at q (4 + 2 * k))
       (en : n ≡ number-at q (4 + 2 * e + 2 * k)) (w : Going u k at) {row : List ℕ}

@@ -1,14 +1,14 @@
 -- The running analysis and the run (01, "Refusals" and "Bindings and runs").
 use mathlib.Core.Bool.{cond}
 use mathlib.Core.List.{List, [], _∷_}
-use Prim.Native.Nat.{ℕ, suc, _+_}
+use Prim.Native.Nat.{ℕ, _+_}
 use lib.Dec.{ltb}
 use lib.ListN.{length}
 use Rattle.tables.specs.declared.Table.{Table}
 use Rattle.tables.specs.declared.Answer.{Answer}
 use Rattle.tables.specs.declared.Answer.the-variants.{Accepted, Refused}
 use Rattle.tables.specs.declared.Answered.{Answered}
-use Rattle.tables.specs.Refusals.{refusal-number, answer-number}
+use Rattle.tables.specs.Refusals.{answer-number}
 use Rattle.tables.specs.Values.{zero-table}
 use Rattle.sharing.specs.Calls.{side-told, equation-call}
 use Rattle.forms.specs.declared.Extent.the-variants.{Whole}

@@ -7,7 +7,8 @@ ghost use Prim.Native.Nat.{_≤_};
 ghost use lib.ListN.{length};
 ghost use Rattle.codec.specs.Numbers.{sum};
 ghost use Rattle.forms.specs.Equations.{equations-length, counts, equations-of};
-ghost use Rattle.running.specs.States.{counted, started, advanced, none-applied, run-from, run-state, state-number, state-bytes};
+ghost use Rattle.running.specs.States.{counted, started, advanced, none-applied, run-from, run-state, state-number};
+ghost use Rattle.running.specs.States.{state-bytes};
 
 // A running analysis: the number of the last answer, the side as it was told, how many equations were accepted, and the table.
 #[repr(C)]

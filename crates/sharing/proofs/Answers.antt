@@ -2,25 +2,19 @@
 use mathlib.Core.Path.{_≡_, refl, sym, ap, subst}
 use mathlib.Core.Bool.{Bool, true, false, _&&_, cond}
 use mathlib.Core.List.{List}
-use mathlib.Core.Option.{Option}
 use Prim.Native.Nat.{ℕ, _-_, _^_, _≤_, _<_}
 use native.Mathlib.Omega.{arith}
 use borrow.Author.Tests.{ltb-true, leb-true}
 use lib.Dec.{ltb, leb}
 use lib.ListN.{length}
-use Rattle.model.specs.Growth.{Entries}
 use Rattle.model.specs.Terms.{Term, variables}
 use Rattle.model.specs.Tokens.{named}
 use Rattle.words.specs.Words.{set-word}
 use Rattle.tables.specs.declared.Table.{Table}
 use Rattle.tables.specs.declared.Refusal.{Refusal}
 use Rattle.tables.specs.declared.Refusal.the-variants as R
-use Rattle.tables.specs.declared.lists.Grown.{Grown}
-use Rattle.tables.specs.declared.lists.Grown.the-variants.{Count, Full}
-use Rattle.tables.specs.Lists.{Holds, Makes}
-use Rattle.tables.specs.Values.{accepts, refuses, made-or-full, GoodTable, entries-of}
-use Rattle.tables.proofs.Values.{table-is}
-use Rattle.tables.proofs.Toward.{makes-count, makes-full}
+use Rattle.tables.specs.Lists.{Holds}
+use Rattle.tables.specs.Values.{refuses, GoodTable, entries-of}
 use Rattle.tables.proofs.Checking.{good-holds, width-most}
 use Rattle.tables.proofs.Converting.{both-true, below-full}
 use Rattle.terms.specs.declared.Checked.the-variants.{Variables, Refused}

@@ -21,7 +21,7 @@ use Rattle.words.specs.Words.{word, key-of, within}
 use Rattle.words.proofs.Keys.{key-within}
 use Rattle.tables.specs.declared.lists.Grown.{Grown}
 use Rattle.tables.specs.declared.lists.Grown.the-variants.{Count, Full}
-use Rattle.tables.specs.Lists.{zero-entry, padded, list-words, Arrays, Holds, HoldsKeys, any, some-from}
+use Rattle.tables.specs.Lists.{zero-entry, padded, list-words, Holds, HoldsKeys, any, some-from}
 use Rattle.tables.specs.Lists.{Passes, MakesKeys, makes-keys, stops-keys}
 use Rattle.tables.specs.Values.{entry-at}
 use Rattle.tables.proofs.Arrays.{arrays-at, wide-at, list-words-at, subsumed-any}

@@ -19,7 +19,14 @@ same-length : tie.Need-same-length
 same-length c = search needs
 
 returns : tie.Need-returns
-returns c = putting (c .before .before .before .before .before .before .before .before .args .out .now) (c .before .before .before .before .change-side .ensures ∙ ap (λ (s : Side). change-side-bytes s (c .before .before .before .before .before .before .before .before .args .table .now)) (c .before .before .before .before .before .side-numbered .ensures)) (c .before .before .put .ensures .0) (c .before .before .put .ensures .1)
+returns c =
+    let at-put = c .before .before in
+    let at-change-side = at-put .before .before in
+    let at-side-numbered = at-change-side .before in
+    let at-start = at-side-numbered .before .before .before in
+    putting (at-start .args .out .now)
+    (at-change-side .change-side .ensures ∙ ap (λ (s : Side). change-side-bytes s (at-start .args .table .now))
+    (at-side-numbered .side-numbered .ensures)) (at-put .put .ensures .0) (at-put .put .ensures .1)
 
 pub sharing-change-side-spec : {M : Type 1} → statement M
 sharing-change-side-spec = tie.close (tie.spec side-numbered-requires change-side-requires put-requires same-length returns)

@@ -13,7 +13,11 @@ same-length : tie.Need-same-length
 same-length c = search needs
 
 returns : tie.Need-returns
-returns c = putting (c .before .before .before .before .before .before .before .args .out .now) (c .before .before .before .before .convert .ensures) (c .before .before .put .ensures .0) (c .before .before .put .ensures .1)
+returns c =
+    let at-put = c .before .before in
+    let at-convert = at-put .before .before in
+    let at-start = at-convert .before .before .before in
+    putting (at-start .args .out .now) (at-convert .convert .ensures) (at-put .put .ensures .0) (at-put .put .ensures .1)
 
 pub sharing-convert-spec : {M : Type 1} → statement M
 sharing-convert-spec = tie.close (tie.spec convert-requires put-requires same-length returns)

@@ -19,7 +19,16 @@ same-length : tie.Need-same-length
 same-length c = search needs
 
 returns : tie.Need-returns
-returns c = putting (c .before .before .before .before .before .before .before .before .before .args .out .now) (c .before .before .before .before .equation .ensures ∙ ap (λ (s : Side). equation-bytes s (c .before .before .before .before .before .before .before .before .before .args .table .now) (c .before .before .before .before .before .before .before .before .before .args .variable) (c .before .before .before .before .before .before .before .before .before .args .term .now)) (c .before .before .before .before .before .side-numbered .ensures)) (c .before .before .put .ensures .0) (c .before .before .put .ensures .1)
+returns c =
+    let at-put = c .before .before in
+    let at-equation = at-put .before .before in
+    let at-side-numbered = at-equation .before in
+    let at-start = at-side-numbered .before .before .before .before in
+    putting (at-start .args .out .now)
+    (at-equation .equation .ensures ∙ ap
+    (λ (s : Side). equation-bytes s (at-start .args .table .now) (at-start .args .variable)
+    (at-start .args .term .now)) (at-side-numbered .side-numbered .ensures)) (at-put .put .ensures .0)
+    (at-put .put .ensures .1)
 
 pub sharing-equation-spec : {M : Type 1} → statement M
 sharing-equation-spec = tie.close (tie.spec side-numbered-requires equation-requires put-requires same-length returns)

@@ -16,7 +16,14 @@ tell-requires : tie.Need-tell-requires
 tell-requires c κs = search needs
 
 returns : tie.Need-returns
-returns c = telling (c .before .before .before .before .before .args .answer .now) (c .before .before .ground .ensures ∙ ap (λ (s : Side). ground-bytes s (c .before .before .before .before .before .args .table .now) (c .before .before .before .before .before .args .variable)) (c .before .before .before .side-numbered .ensures)) (c .tell .ensures .0) (c .tell .ensures .1)
+returns c =
+    let at-ground = c .before .before in
+    let at-side-numbered = at-ground .before in
+    let at-start = at-side-numbered .before .before in
+    telling (at-start .args .answer .now)
+    (at-ground .ground .ensures ∙ ap
+    (λ (s : Side). ground-bytes s (at-start .args .table .now) (at-start .args .variable))
+    (at-side-numbered .side-numbered .ensures)) (c .tell .ensures .0) (c .tell .ensures .1)
 
 pub sharing-ground-spec : {M : Type 1} → statement M
 sharing-ground-spec = tie.close (tie.spec side-numbered-requires ground-requires tell-requires returns)

@@ -16,7 +16,14 @@ tell-requires : tie.Need-tell-requires
 tell-requires c κs = search needs
 
 returns : tie.Need-returns
-returns c = telling (c .before .before .before .before .before .args .answer .now) (c .before .before .independent .ensures ∙ ap (λ (s : Side). independent-bytes s (c .before .before .before .before .before .args .table .now) (c .before .before .before .before .before .args .first) (c .before .before .before .before .before .args .second)) (c .before .before .before .side-numbered .ensures)) (c .tell .ensures .0) (c .tell .ensures .1)
+returns c =
+    let at-independent = c .before .before in
+    let at-side-numbered = at-independent .before in
+    let at-start = at-side-numbered .before .before in
+    telling (at-start .args .answer .now)
+    (at-independent .independent .ensures ∙ ap
+    (λ (s : Side). independent-bytes s (at-start .args .table .now) (at-start .args .first) (at-start .args .second))
+    (at-side-numbered .side-numbered .ensures)) (c .tell .ensures .0) (c .tell .ensures .1)
 
 pub sharing-independent-spec : {M : Type 1} → statement M
 sharing-independent-spec = tie.close (tie.spec side-numbered-requires independent-requires tell-requires returns)

@@ -19,7 +19,14 @@ same-length : tie.Need-same-length
 same-length c = search needs
 
 returns : tie.Need-returns
-returns c = putting (c .before .before .before .before .before .before .before .before .before .args .out .now) (c .before .before .before .before .join .ensures ∙ ap (λ (s : Side). join-bytes s (c .before .before .before .before .before .before .before .before .before .args .first .now) (c .before .before .before .before .before .before .before .before .before .args .second .now)) (c .before .before .before .before .before .side-numbered .ensures)) (c .before .before .put .ensures .0) (c .before .before .put .ensures .1)
+returns c =
+    let at-put = c .before .before in
+    let at-join = at-put .before .before in
+    let at-side-numbered = at-join .before in
+    let at-start = at-side-numbered .before .before .before .before in
+    putting (at-start .args .out .now)
+    (at-join .join .ensures ∙ ap (λ (s : Side). join-bytes s (at-start .args .first .now) (at-start .args .second .now))
+    (at-side-numbered .side-numbered .ensures)) (at-put .put .ensures .0) (at-put .put .ensures .1)
 
 pub sharing-join-spec : {M : Type 1} → statement M
 sharing-join-spec = tie.close (tie.spec side-numbered-requires join-requires put-requires same-length returns)

@@ -19,7 +19,15 @@ same-length : tie.Need-same-length
 same-length c = search needs
 
 returns : tie.Need-returns
-returns c = putting (c .before .before .before .before .before .before .before .before .args .out .now) (c .before .before .before .before .project .ensures ∙ ap (λ (s : Side). projection-bytes s (c .before .before .before .before .before .before .before .before .args .table .now) (c .before .before .before .before .before .before .before .before .args .keep)) (c .before .before .before .before .before .side-numbered .ensures)) (c .before .before .put .ensures .0) (c .before .before .put .ensures .1)
+returns c =
+    let at-put = c .before .before in
+    let at-project = at-put .before .before in
+    let at-side-numbered = at-project .before in
+    let at-start = at-side-numbered .before .before .before in
+    putting (at-start .args .out .now)
+    (at-project .project .ensures ∙ ap
+    (λ (s : Side). projection-bytes s (at-start .args .table .now) (at-start .args .keep))
+    (at-side-numbered .side-numbered .ensures)) (at-put .put .ensures .0) (at-put .put .ensures .1)
 
 pub sharing-project-spec : {M : Type 1} → statement M
 sharing-project-spec = tie.close (tie.spec side-numbered-requires project-requires put-requires same-length returns)

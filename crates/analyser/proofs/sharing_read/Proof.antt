@@ -13,7 +13,12 @@ same-length : tie.Need-same-length
 same-length c = search needs
 
 returns : tie.Need-returns
-returns c = putting (c .before .before .before .before .before .before .before .args .out .now) (c .before .before .before .before .read-table .ensures) (c .before .before .put .ensures .0) (c .before .before .put .ensures .1)
+returns c =
+    let at-put = c .before .before in
+    let at-read-table = at-put .before .before in
+    let at-start = at-read-table .before .before .before in
+    putting (at-start .args .out .now) (at-read-table .read-table .ensures) (at-put .put .ensures .0)
+    (at-put .put .ensures .1)
 
 pub sharing-read-spec : {M : Type 1} → statement M
 sharing-read-spec = tie.close (tie.spec read-table-requires put-requires same-length returns)

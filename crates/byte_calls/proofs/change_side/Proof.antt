@@ -23,11 +23,22 @@ change-side-requires c κs = search needs
 
 returns : tie.Need-returns
 unfolding change-side-bytes
-returns c = c .refused .ensures ∙ read-refused (c .before .before .before .before .before .before .before .args .b .now) (c .before .before .before .before .before .read-table .ensures) (change-side-call (side-of (c .before .before .before .before .before .before .before .args .side))) (c .before .before .answer .given .1)
+returns c =
+    let at-answer = c .before .before in
+    let at-read-table = at-answer .before .before .before in
+    let at-start = at-read-table .before .before in
+    c .refused .ensures ∙ read-refused (at-start .args .b .now) (at-read-table .read-table .ensures)
+    (change-side-call (side-of (at-start .args .side))) (at-answer .answer .given .1)
 
 returns-2 : tie.Need-returns-2
 unfolding change-side-bytes
-returns-2 c = c .change-side .ensures ∙ read-went (c .before .before .before .before .before .before .args .b .now) (c .before .before .before .before .read-table .ensures) (change-side-call (side-of (c .before .before .before .before .before .before .args .side))) (c .before .enum-told .given .1)
+returns-2 c =
+    let at-enum-told = c .before in
+    let at-read-table = at-enum-told .before .before .before in
+    let at-start = at-read-table .before .before in
+    c .change-side .ensures ∙ read-went (at-start .args .b .now) (at-read-table .read-table .ensures)
+    (change-side-call (side-of (at-start .args .side))) (at-enum-told .enum-told .given .1)
 
 pub change-side-spec : {M : Type 1} → statement M
-change-side-spec = tie.close (tie.spec read-table-requires enum-known-answer refused-requires enum-told change-side-requires returns returns-2)
+change-side-spec = tie.close
+    (tie.spec read-table-requires enum-known-answer refused-requires enum-told change-side-requires returns returns-2)

@@ -1,6 +1,5 @@
 use borrow.Author.Tests.{le-leb, lt-leb, eq-eqb, ne-eqb}
 use Rattle.byte_calls.specs.Calls.{check-bytes}
-use borrow.Author.Needs.{needs}
 use Rattle.byte_calls.proofs.check_bytes.Statement.{statement}
 use Rattle.byte_calls.proofs.check_bytes.Tie as tie
 

@@ -29,20 +29,40 @@ equal-requires c κs = search needs
 
 returns : tie.Need-returns
 unfolding equal-bytes
-returns c = ask-refused (c .before .before .before .before .before .before .before .args .b .now) (c .before .before .before .before .read-table .ensures) (λ t. ask-read (c .before .before .before .before .before .before .before .args .c .now) (equal-call t)) (c .before .answer .given .1)
+returns c =
+    let at-answer = c .before in
+    let at-read-table = at-answer .before .before .before in
+    let at-start = at-read-table .before .before .before in
+    ask-refused (at-start .args .b .now) (at-read-table .read-table .ensures)
+    (λ t. ask-read (at-start .args .c .now) (equal-call t)) (at-answer .answer .given .1)
 
 returns-2 : tie.Need-returns-2
 unfolding equal-bytes
 returns-2 c =
-    ask-refused (c .before .before .before .before .before .before .before .before .before .before .before .args .c .now) (c .before .before .before .before .read-table2 .ensures) (equal-call _) (c .before .other .given .1)
-    ∙ ask-went (c .before .before .before .before .before .before .before .before .before .before .before .args .b .now) (c .before .before .before .before .before .before .before .before .read-table .ensures) (λ t. ask-read (c .before .before .before .before .before .before .before .before .before .before .before .args .c .now) (equal-call t)) (c .before .before .before .before .before .enum-told .given .1)
+    let at-other = c .before in
+    let at-read-table2 = at-other .before .before .before in
+    let at-enum-told = at-read-table2 .before in
+    let at-read-table = at-enum-told .before .before .before in
+    let at-start = at-read-table .before .before .before in
+    ask-refused (at-start .args .c .now) (at-read-table2 .read-table2 .ensures) (equal-call _) (at-other .other .given .1)
+    ∙ ask-went (at-start .args .b .now) (at-read-table .read-table .ensures)
+    (λ t. ask-read (at-start .args .c .now) (equal-call t)) (at-enum-told .enum-told .given .1)
 
 returns-3 : tie.Need-returns-3
 unfolding equal-bytes
 returns-3 c =
+    let at-enum-told2 = c .before in
+    let at-read-table2 = at-enum-told2 .before .before .before in
+    let at-enum-told = at-read-table2 .before in
+    let at-read-table = at-enum-told .before .before .before in
+    let at-start = at-read-table .before .before .before in
     c .equal .ensures
-    ∙ ask-went (c .before .before .before .before .before .before .before .before .before .before .before .args .c .now) (c .before .before .before .before .read-table2 .ensures) (equal-call _) (c .before .enum-told2 .given .1)
-    ∙ ask-went (c .before .before .before .before .before .before .before .before .before .before .before .args .b .now) (c .before .before .before .before .before .before .before .before .read-table .ensures) (λ t. ask-read (c .before .before .before .before .before .before .before .before .before .before .before .args .c .now) (equal-call t)) (c .before .before .before .before .before .enum-told .given .1)
+    ∙ ask-went (at-start .args .c .now) (at-read-table2 .read-table2 .ensures) (equal-call _)
+    (at-enum-told2 .enum-told2 .given .1)
+    ∙ ask-went (at-start .args .b .now) (at-read-table .read-table .ensures)
+    (λ t. ask-read (at-start .args .c .now) (equal-call t)) (at-enum-told .enum-told .given .1)
 
 pub equal-spec : {M : Type 1} → statement M
-equal-spec = tie.close (tie.spec read-table-requires enum-known-answer enum-told read-table-requires-2 enum-known-other enum-told-2 equal-requires returns returns-2 returns-3)
+equal-spec = tie.close
+    (tie.spec read-table-requires enum-known-answer enum-told read-table-requires-2 enum-known-other enum-told-2
+    equal-requires returns returns-2 returns-3)

@@ -23,11 +23,24 @@ equation-term-requires c κs = search needs
 
 returns : tie.Need-returns
 unfolding equation-bytes
-returns c = c .refused .ensures ∙ read-refused (c .before .before .before .before .before .before .before .before .args .b .now) (c .before .before .before .before .before .read-table .ensures) (λ t. term-call (side-of (c .before .before .before .before .before .before .before .before .args .side)) t (c .before .before .before .before .before .before .before .before .args .x) (c .before .before .before .before .before .before .before .before .args .term .now)) (c .before .before .answer .given .1)
+returns c =
+    let at-answer = c .before .before in
+    let at-read-table = at-answer .before .before .before in
+    let at-start = at-read-table .before .before .before in
+    c .refused .ensures ∙ read-refused (at-start .args .b .now) (at-read-table .read-table .ensures)
+    (λ t. term-call (side-of (at-start .args .side)) t (at-start .args .x) (at-start .args .term .now))
+    (at-answer .answer .given .1)
 
 returns-2 : tie.Need-returns-2
 unfolding equation-bytes
-returns-2 c = c .equation-term .ensures ∙ read-went (c .before .before .before .before .before .before .before .args .b .now) (c .before .before .before .before .read-table .ensures) (λ t. term-call (side-of (c .before .before .before .before .before .before .before .args .side)) t (c .before .before .before .before .before .before .before .args .x) (c .before .before .before .before .before .before .before .args .term .now)) (c .before .enum-told .given .1)
+returns-2 c =
+    let at-enum-told = c .before in
+    let at-read-table = at-enum-told .before .before .before in
+    let at-start = at-read-table .before .before .before in
+    c .equation-term .ensures ∙ read-went (at-start .args .b .now) (at-read-table .read-table .ensures)
+    (λ t. term-call (side-of (at-start .args .side)) t (at-start .args .x) (at-start .args .term .now))
+    (at-enum-told .enum-told .given .1)
 
 pub equation-spec : {M : Type 1} → statement M
-equation-spec = tie.close (tie.spec read-table-requires enum-known-answer refused-requires enum-told equation-term-requires returns returns-2)
+equation-spec = tie.close
+    (tie.spec read-table-requires enum-known-answer refused-requires enum-told equation-term-requires returns returns-2)

@@ -34,7 +34,9 @@ enum-told-2 c = search needs
 
 tokens-at-requires : tie.Need-tokens-at-requires
 tokens-at-requires c κs =
-    let few = bytes-few (c .before .before .before .before .before .before .before .args .term .now) (sym (c .before .before .check-bytes .ensures) ∙ c .enum-told2 .given .1) in
+    let at-check-bytes = c .before .before in
+    let at-start = at-check-bytes .before .before .before .before .before in
+    let few = bytes-few (at-start .args .term .now) (sym (at-check-bytes .check-bytes .ensures) ∙ c .enum-told2 .given .1) in
     (few, omega arith)
 
 slice-aggregate-tokens : tie.Need-slice-aggregate-tokens
@@ -42,25 +44,51 @@ slice-aggregate-tokens c = search needs
 
 slice-aggregate-equation : tie.Need-slice-aggregate-equation
 slice-aggregate-equation c =
-    let few = bytes-few (c .before .before .before .before .before .before .before .before .before .before .args .term .now) (sym (c .before .before .before .before .before .check-bytes .ensures) ∙ c .before .before .before .enum-told2 .given .1) in
-    let row = c .before .before .tokens-at .result in
+    let at-tokens-at = c .before .before in
+    let at-enum-told2 = at-tokens-at .before in
+    let at-check-bytes = at-enum-told2 .before .before in
+    let at-start = at-check-bytes .before .before .before .before .before in
+    let few = bytes-few (at-start .args .term .now)
+    (sym (at-check-bytes .check-bytes .ensures) ∙ at-enum-told2 .enum-told2 .given .1) in
+    let row = at-tokens-at .tokens-at .result in
     let long : length row ≡ 1024 = search needs in sym (length-take-le _ row (omega (arith, few, long)))
 
 equation-requires : tie.Need-equation-requires
 equation-requires c κs = search needs
 
 returns : tie.Need-returns
-returns c = c .refused .ensures ∙ term-stray (side-of (c .before .before .before .before .before .before .args .side)) (c .before .before .before .before .before .before .args .t) (c .before .before .before .before .before .before .args .x) (c .before .before .before .before .before .before .args .term .now) (sym (c .before .before .before .before .check .ensures .0) ∙ c .before .before .r .given .1)
+returns c =
+    let at-r = c .before .before in
+    let at-check = at-r .before .before in
+    let at-start = at-check .before .before in
+    c .refused .ensures ∙ term-stray (side-of (at-start .args .side)) (at-start .args .t) (at-start .args .x)
+    (at-start .args .term .now) (sym (at-check .check .ensures .0) ∙ at-r .r .given .1)
 
 returns-2 : tie.Need-returns-2
 returns-2 c =
-    c .refused2 .ensures ∙ term-refused (side-of (c .before .before .before .before .before .before .before .before .before .args .side)) (c .before .before .before .before .before .before .before .before .before .args .t) (c .before .before .before .before .before .before .before .before .before .args .x) (c .before .before .before .before .before .before .before .before .before .args .term .now) (sym (c .before .before .before .before .before .before .before .check .ensures .0) ∙ c .before .before .before .before .before .enum-told .given .1)
-    (sym (c .before .before .before .before .check-bytes .ensures) ∙ c .before .before .r2 .given .1)
+    let at-r2 = c .before .before in
+    let at-check-bytes = at-r2 .before .before in
+    let at-enum-told = at-check-bytes .before in
+    let at-check = at-enum-told .before .before in
+    let at-start = at-check .before .before in
+    c .refused2 .ensures ∙ term-refused (side-of (at-start .args .side)) (at-start .args .t) (at-start .args .x)
+    (at-start .args .term .now) (sym (at-check .check .ensures .0) ∙ at-enum-told .enum-told .given .1)
+    (sym (at-check-bytes .check-bytes .ensures) ∙ at-r2 .r2 .given .1)
 
 returns-3 : tie.Need-returns-3
 returns-3 c =
-    c .equation .ensures ∙ term-went (side-of (c .before .before .before .before .before .before .before .before .before .before .before .args .side)) (c .before .before .before .before .before .before .before .before .before .before .before .args .t) (c .before .before .before .before .before .before .before .before .before .before .before .args .x) (c .before .before .before .before .before .before .before .before .before .before .before .args .term .now) (sym (c .before .before .before .before .before .before .before .before .before .check .ensures .0) ∙ c .before .before .before .before .before .before .before .enum-told .given .1)
-    (sym (c .before .before .before .before .before .before .check-bytes .ensures) ∙ c .before .before .before .before .enum-told2 .given .1) (c .before .before .before .tokens-at .ensures)
+    let at-tokens-at = c .before .before .before in
+    let at-enum-told2 = at-tokens-at .before in
+    let at-check-bytes = at-enum-told2 .before .before in
+    let at-enum-told = at-check-bytes .before in
+    let at-check = at-enum-told .before .before in
+    let at-start = at-check .before .before in
+    c .equation .ensures ∙ term-went (side-of (at-start .args .side)) (at-start .args .t) (at-start .args .x)
+    (at-start .args .term .now) (sym (at-check .check .ensures .0) ∙ at-enum-told .enum-told .given .1)
+    (sym (at-check-bytes .check-bytes .ensures) ∙ at-enum-told2 .enum-told2 .given .1) (at-tokens-at .tokens-at .ensures)
 
 pub equation-term-spec : {M : Type 1} → statement M
-equation-term-spec = tie.close (tie.spec check-requires enum-known-r refused-requires enum-told check-bytes-requires enum-known-r-2 refused-requires-2 enum-told-2 tokens-at-requires slice-aggregate-tokens slice-aggregate-equation equation-requires returns returns-2 returns-3)
+equation-term-spec = tie.close
+    (tie.spec check-requires enum-known-r refused-requires enum-told check-bytes-requires enum-known-r-2
+    refused-requires-2 enum-told-2 tokens-at-requires slice-aggregate-tokens slice-aggregate-equation equation-requires
+    returns returns-2 returns-3)

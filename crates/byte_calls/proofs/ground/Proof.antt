@@ -21,11 +21,21 @@ ground-requires c κs = search needs
 
 returns : tie.Need-returns
 unfolding ground-bytes
-returns c = ask-refused (c .before .before .before .before .before .before .args .b .now) (c .before .before .before .before .read-table .ensures) (λ t. ground-call (side-of (c .before .before .before .before .before .before .args .side)) t (c .before .before .before .before .before .before .args .x)) (c .before .answer .given .1)
+returns c =
+    let at-answer = c .before in
+    let at-read-table = at-answer .before .before .before in
+    let at-start = at-read-table .before .before in
+    ask-refused (at-start .args .b .now) (at-read-table .read-table .ensures)
+    (λ t. ground-call (side-of (at-start .args .side)) t (at-start .args .x)) (at-answer .answer .given .1)
 
 returns-2 : tie.Need-returns-2
 unfolding ground-bytes
-returns-2 c = c .ground .ensures ∙ ask-went (c .before .before .before .before .before .before .args .b .now) (c .before .before .before .before .read-table .ensures) (λ t. ground-call (side-of (c .before .before .before .before .before .before .args .side)) t (c .before .before .before .before .before .before .args .x)) (c .before .enum-told .given .1)
+returns-2 c =
+    let at-enum-told = c .before in
+    let at-read-table = at-enum-told .before .before .before in
+    let at-start = at-read-table .before .before in
+    c .ground .ensures ∙ ask-went (at-start .args .b .now) (at-read-table .read-table .ensures)
+    (λ t. ground-call (side-of (at-start .args .side)) t (at-start .args .x)) (at-enum-told .enum-told .given .1)
 
 pub ground-spec : {M : Type 1} → statement M
 ground-spec = tie.close (tie.spec read-table-requires enum-known-answer enum-told ground-requires returns returns-2)

@@ -21,11 +21,24 @@ independent-requires c κs = search needs
 
 returns : tie.Need-returns
 unfolding independent-bytes
-returns c = ask-refused (c .before .before .before .before .before .before .args .b .now) (c .before .before .before .before .read-table .ensures) (λ t. independent-call (side-of (c .before .before .before .before .before .before .args .side)) t (c .before .before .before .before .before .before .args .first) (c .before .before .before .before .before .before .args .second)) (c .before .answer .given .1)
+returns c =
+    let at-answer = c .before in
+    let at-read-table = at-answer .before .before .before in
+    let at-start = at-read-table .before .before in
+    ask-refused (at-start .args .b .now) (at-read-table .read-table .ensures)
+    (λ t. independent-call (side-of (at-start .args .side)) t (at-start .args .first) (at-start .args .second))
+    (at-answer .answer .given .1)
 
 returns-2 : tie.Need-returns-2
 unfolding independent-bytes
-returns-2 c = c .independent .ensures ∙ ask-went (c .before .before .before .before .before .before .args .b .now) (c .before .before .before .before .read-table .ensures) (λ t. independent-call (side-of (c .before .before .before .before .before .before .args .side)) t (c .before .before .before .before .before .before .args .first) (c .before .before .before .before .before .before .args .second)) (c .before .enum-told .given .1)
+returns-2 c =
+    let at-enum-told = c .before in
+    let at-read-table = at-enum-told .before .before .before in
+    let at-start = at-read-table .before .before in
+    c .independent .ensures ∙ ask-went (at-start .args .b .now) (at-read-table .read-table .ensures)
+    (λ t. independent-call (side-of (at-start .args .side)) t (at-start .args .first) (at-start .args .second))
+    (at-enum-told .enum-told .given .1)
 
 pub independent-spec : {M : Type 1} → statement M
-independent-spec = tie.close (tie.spec read-table-requires enum-known-answer enum-told independent-requires returns returns-2)
+independent-spec = tie.close
+    (tie.spec read-table-requires enum-known-answer enum-told independent-requires returns returns-2)

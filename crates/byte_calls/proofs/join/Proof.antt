@@ -35,21 +35,44 @@ join-requires c κs = search needs
 
 returns : tie.Need-returns
 unfolding join-bytes
-returns c = c .refused .ensures ∙ read-refused (c .before .before .before .before .before .before .before .before .args .b .now) (c .before .before .before .before .before .read-table .ensures) (λ t. after-read (c .before .before .before .before .before .before .before .before .args .c .now) (join-call (side-of (c .before .before .before .before .before .before .before .before .args .side)) t)) (c .before .before .answer .given .1)
+returns c =
+    let at-answer = c .before .before in
+    let at-read-table = at-answer .before .before .before in
+    let at-start = at-read-table .before .before .before in
+    c .refused .ensures ∙ read-refused (at-start .args .b .now) (at-read-table .read-table .ensures)
+    (λ t. after-read (at-start .args .c .now) (join-call (side-of (at-start .args .side)) t)) (at-answer .answer .given .1)
 
 returns-2 : tie.Need-returns-2
 unfolding join-bytes
 returns-2 c =
+    let at-other = c .before .before in
+    let at-read-table2 = at-other .before .before .before in
+    let at-enum-told = at-read-table2 .before in
+    let at-read-table = at-enum-told .before .before .before in
+    let at-start = at-read-table .before .before .before in
     c .refused2 .ensures
-    ∙ read-refused (c .before .before .before .before .before .before .before .before .before .before .before .before .args .c .now) (c .before .before .before .before .before .read-table2 .ensures) (join-call (side-of (c .before .before .before .before .before .before .before .before .before .before .before .before .args .side)) _) (c .before .before .other .given .1)
-    ∙ read-went (c .before .before .before .before .before .before .before .before .before .before .before .before .args .b .now) (c .before .before .before .before .before .before .before .before .before .read-table .ensures) (λ t. after-read (c .before .before .before .before .before .before .before .before .before .before .before .before .args .c .now) (join-call (side-of (c .before .before .before .before .before .before .before .before .before .before .before .before .args .side)) t)) (c .before .before .before .before .before .before .enum-told .given .1)
+    ∙ read-refused (at-start .args .c .now) (at-read-table2 .read-table2 .ensures)
+    (join-call (side-of (at-start .args .side)) _) (at-other .other .given .1)
+    ∙ read-went (at-start .args .b .now) (at-read-table .read-table .ensures)
+    (λ t. after-read (at-start .args .c .now) (join-call (side-of (at-start .args .side)) t))
+    (at-enum-told .enum-told .given .1)
 
 returns-3 : tie.Need-returns-3
 unfolding join-bytes
 returns-3 c =
+    let at-enum-told2 = c .before in
+    let at-read-table2 = at-enum-told2 .before .before .before in
+    let at-enum-told = at-read-table2 .before in
+    let at-read-table = at-enum-told .before .before .before in
+    let at-start = at-read-table .before .before .before in
     c .join .ensures
-    ∙ read-went (c .before .before .before .before .before .before .before .before .before .before .before .args .c .now) (c .before .before .before .before .read-table2 .ensures) (join-call (side-of (c .before .before .before .before .before .before .before .before .before .before .before .args .side)) _) (c .before .enum-told2 .given .1)
-    ∙ read-went (c .before .before .before .before .before .before .before .before .before .before .before .args .b .now) (c .before .before .before .before .before .before .before .before .read-table .ensures) (λ t. after-read (c .before .before .before .before .before .before .before .before .before .before .before .args .c .now) (join-call (side-of (c .before .before .before .before .before .before .before .before .before .before .before .args .side)) t)) (c .before .before .before .before .before .enum-told .given .1)
+    ∙ read-went (at-start .args .c .now) (at-read-table2 .read-table2 .ensures)
+    (join-call (side-of (at-start .args .side)) _) (at-enum-told2 .enum-told2 .given .1)
+    ∙ read-went (at-start .args .b .now) (at-read-table .read-table .ensures)
+    (λ t. after-read (at-start .args .c .now) (join-call (side-of (at-start .args .side)) t))
+    (at-enum-told .enum-told .given .1)
 
 pub join-spec : {M : Type 1} → statement M
-join-spec = tie.close (tie.spec read-table-requires enum-known-answer refused-requires enum-told read-table-requires-2 enum-known-other refused-requires-2 enum-told-2 join-requires returns returns-2 returns-3)
+join-spec = tie.close
+    (tie.spec read-table-requires enum-known-answer refused-requires enum-told read-table-requires-2 enum-known-other
+    refused-requires-2 enum-told-2 join-requires returns returns-2 returns-3)

@@ -23,11 +23,22 @@ project-requires c κs = search needs
 
 returns : tie.Need-returns
 unfolding projection-bytes
-returns c = c .refused .ensures ∙ read-refused (c .before .before .before .before .before .before .before .args .b .now) (c .before .before .before .before .before .read-table .ensures) (λ t. projection-call (side-of (c .before .before .before .before .before .before .before .args .side)) t (c .before .before .before .before .before .before .before .args .keep)) (c .before .before .answer .given .1)
+returns c =
+    let at-answer = c .before .before in
+    let at-read-table = at-answer .before .before .before in
+    let at-start = at-read-table .before .before in
+    c .refused .ensures ∙ read-refused (at-start .args .b .now) (at-read-table .read-table .ensures)
+    (λ t. projection-call (side-of (at-start .args .side)) t (at-start .args .keep)) (at-answer .answer .given .1)
 
 returns-2 : tie.Need-returns-2
 unfolding projection-bytes
-returns-2 c = c .project .ensures ∙ read-went (c .before .before .before .before .before .before .args .b .now) (c .before .before .before .before .read-table .ensures) (λ t. projection-call (side-of (c .before .before .before .before .before .before .args .side)) t (c .before .before .before .before .before .before .args .keep)) (c .before .enum-told .given .1)
+returns-2 c =
+    let at-enum-told = c .before in
+    let at-read-table = at-enum-told .before .before .before in
+    let at-start = at-read-table .before .before in
+    c .project .ensures ∙ read-went (at-start .args .b .now) (at-read-table .read-table .ensures)
+    (λ t. projection-call (side-of (at-start .args .side)) t (at-start .args .keep)) (at-enum-told .enum-told .given .1)
 
 pub project-spec : {M : Type 1} → statement M
-project-spec = tie.close (tie.spec read-table-requires enum-known-answer refused-requires enum-told project-requires returns returns-2)
+project-spec = tie.close
+    (tie.spec read-table-requires enum-known-answer refused-requires enum-told project-requires returns returns-2)

@@ -25,7 +25,9 @@ returns-2 c = (rw (c .enum-told2 .given .1), rw (c .enum-told2 .given .1))
 
 returns-3 : tie.Need-returns-3
 unfolding reply-number reply-word
-returns-3 c = (rw (c .refusal-number .ensures, c .before .before .reply .given .1), rw (c .before .before .reply .given .1))
+returns-3 c =
+    let at-reply = c .before .before in
+    (rw (c .refusal-number .ensures, at-reply .reply .given .1), rw (at-reply .reply .given .1))
 
 pub tell-spec : {M : Type 1} → statement M
 tell-spec = tie.close (tie.spec enum-told enum-told-2 enum-known-reply refusal-number-requires returns returns-2 returns-3)

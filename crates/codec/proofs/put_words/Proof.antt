@@ -42,11 +42,15 @@ loop-less c = search needs
 
 loop-again : tie.Need-loop-again Inv-loop μ-loop
 loop-again c =
-    let w = c .before .before .before .before .before .before .loop in
-    let a = c .before .before .before .before .before .before .before .before .before .args in (
+    let at-put-number = c .before .before in
+    let at-loop = at-put-number .before .before .before .before in
+    let at-start = at-loop .before .before .before in
+    let w = at-loop .loop in
+    let a = at-start .args in (
       search needs,
-      c .before .before .put-number .ensures ∙ put-turn (a .b .now) (a .ws .now) (w .b) (a .at) (w .i) (search needs) (w .inv .1),
-      c .before .before .put-number .kept .0 ∙ w .inv .2,
+      at-put-number .put-number .ensures ∙ put-turn (a .b .now) (a .ws .now) (w .b) (a .at) (w .i) (search needs)
+          (w .inv .1),
+      at-put-number .put-number .kept .0 ∙ w .inv .2,
     )
 
 same-length : tie.Need-same-length Inv-loop μ-loop
@@ -58,4 +62,6 @@ returns c =
     let e : w .i ≡ c .before .before .before .before .args .n = omega arith in rw e at (w .inv .1)
 
 pub put-words-spec : {M : Type 1} → statement M
-put-words-spec = tie.close (tie.spec Inv-loop μ-loop loop-holds mul-put-number add-put-number mul-put-number-2 shared-slice-read-put-number put-number-requires add-i loop-less loop-again same-length returns)
+put-words-spec = tie.close
+    (tie.spec Inv-loop μ-loop loop-holds mul-put-number add-put-number mul-put-number-2 shared-slice-read-put-number
+    put-number-requires add-i loop-less loop-again same-length returns)

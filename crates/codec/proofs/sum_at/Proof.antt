@@ -50,7 +50,12 @@ loop-again c =
     )
 
 returns : tie.Need-returns Inv-loop μ-loop
-returns c = let e : c .before .loop .i ≡ c .before .before .before .args .n = omega arith in rw e at (c .before .loop .inv .1)
+returns c =
+    let at-loop = c .before in
+    let at-start = at-loop .before .before in
+    let e : at-loop .loop .i ≡ at-start .args .n = omega arith in rw e at (at-loop .loop .inv .1)
 
 pub sum-at-spec : {M : Type 1} → statement M
-sum-at-spec = tie.close (tie.spec Inv-loop μ-loop loop-holds mul-number-at add-number-at number-at-requires cast-total add-total add-i loop-less loop-again returns)
+sum-at-spec = tie.close
+    (tie.spec Inv-loop μ-loop loop-holds mul-number-at add-number-at number-at-requires cast-total add-total add-i
+    loop-less loop-again returns)

@@ -44,12 +44,19 @@ loop-less c = search needs
 
 loop-again : tie.Need-loop-again Inv-loop μ-loop
 loop-again c =
-    let w = c .before .before .loop in
-    let a = c .before .before .before .before .args in
+    let at-loop = c .before .before in
+    let at-start = at-loop .before .before in
+    let w = at-loop .loop in
+    let a = at-start .args in
     (search needs, read-turn 256 (a .at) (w .i) _ (a .b .now) (w .out) (omega arith) (w .inv .1) (c .number-at .ensures))
 
 returns : tie.Need-returns Inv-loop μ-loop
-returns c = let e : c .before .loop .i ≡ c .before .before .before .args .n = omega arith in rw e at (c .before .loop .inv .1)
+returns c =
+    let at-loop = c .before in
+    let at-start = at-loop .before .before in
+    let e : at-loop .loop .i ≡ at-start .args .n = omega arith in rw e at (at-loop .loop .inv .1)
 
 pub words-at-spec : {M : Type 1} → statement M
-words-at-spec = tie.close (tie.spec Inv-loop μ-loop loop-holds mul-number-at add-number-at number-at-requires cast-out mul-out array-write-out add-i loop-less loop-again returns)
+words-at-spec = tie.close
+    (tie.spec Inv-loop μ-loop loop-holds mul-number-at add-number-at number-at-requires cast-out mul-out array-write-out
+    add-i loop-less loop-again returns)

@@ -1,4 +1,3 @@
-use mathlib.Core.Path.{_≡_, sym, _∙_}
 use Prim.Native.Nat.{_-_, _≤_}
 use native.Mathlib.Omega.{arith}
 use borrow.Author.Needs.{needs}
@@ -25,7 +24,10 @@ slice-aggregate-tokens : tie.Need-slice-aggregate-tokens Inv-loop μ-loop
 slice-aggregate-tokens c = search needs
 
 loop-holds : tie.Need-loop-holds Inv-loop μ-loop
-loop-holds c = let p = c .before .before .before .pre in (omega arith, walk-start (c .before .before .before .args .l) (c .before .before .before .args .e) (c .before .before .before .args .m) (c .before .before .before .args .b .now) (p .4))
+loop-holds c =
+    let at-start = c .before .before .before in
+    let p = at-start .pre in
+    (omega arith, walk-start (at-start .args .l) (at-start .args .e) (at-start .args .m) (at-start .args .b .now) (p .4))
 
 mul-number-at : tie.Need-mul-number-at Inv-loop μ-loop
 mul-number-at c = search needs
@@ -52,7 +54,10 @@ add-number-at-3 : tie.Need-add-number-at-3 Inv-loop μ-loop
 add-number-at-3 c = search needs
 
 number-at-requires-2 : tie.Need-number-at-requires-2 Inv-loop μ-loop
-number-at-requires-2 c κs = omega (arith, c .before .before .before .before .before .before .pre .3, c .before .loop-test .taken)
+number-at-requires-2 c κs =
+    let at-loop-test = c .before in
+    let at-start = at-loop-test .before .before .before .before .before in
+    omega (arith, at-start .pre .3, at-loop-test .loop-test .taken)
 
 cast-n : tie.Need-cast-n Inv-loop μ-loop
 cast-n c = search needs
@@ -71,16 +76,20 @@ part-check-equation-start c = search needs
 
 part-check-equation-end : tie.Need-part-check-equation-end Inv-loop μ-loop
 part-check-equation-end c =
-    let p = c .before .before .before .before .before .before .before .pre in
-    let l = c .before .before .before .before .before .before .before .args .l in
-    let e = c .before .before .before .before .before .before .before .args .e in
-    let m = c .before .before .before .before .before .before .before .args .m in
-    let b = c .before .before .before .before .before .before .before .args .b .now in
-    let k = c .before .before .before .loop .k in
-    let at = c .before .before .before .loop .at in
-    let lt = c .before .before .loop-test .taken in
-    let w = c .before .before .before .loop .inv .1 in
-    omega (arith, p .2, place-room e m b k at _ _ lt (c .before .number-at .ensures) (c .number-at2 .ensures) (w .0))
+    let at-number-at = c .before in
+    let at-loop-test = at-number-at .before in
+    let at-loop = at-loop-test .before in
+    let at-start = at-loop .before .before .before .before in
+    let p = at-start .pre in
+    let l = at-start .args .l in
+    let e = at-start .args .e in
+    let m = at-start .args .m in
+    let b = at-start .args .b .now in
+    let k = at-loop .loop .k in
+    let at = at-loop .loop .at in
+    let lt = at-loop-test .loop-test .taken in
+    let w = at-loop .loop .inv .1 in
+    omega (arith, p .2, place-room e m b k at _ _ lt (at-number-at .number-at .ensures) (c .number-at2 .ensures) (w .0))
 
 check-equation-requires : tie.Need-check-equation-requires Inv-loop μ-loop
 check-equation-requires c κs = search needs
@@ -90,16 +99,25 @@ enum-known-r c = search needs
 
 returns : tie.Need-returns Inv-loop μ-loop
 returns c =
-    let p = c .before .before .before .before .before .before .before .before .before .before .before .before .pre in
-    let l = c .before .before .before .before .before .before .before .before .before .before .before .before .args .l in
-    let e = c .before .before .before .before .before .before .before .before .before .before .before .before .args .e in
-    let m = c .before .before .before .before .before .before .before .before .before .before .before .before .args .m in
-    let b = c .before .before .before .before .before .before .before .before .before .before .before .before .args .b .now in
-    let k = c .before .before .before .before .before .before .before .before .loop .k in
-    let at = c .before .before .before .before .before .before .before .before .loop .at in
-    let lt = c .before .before .before .before .before .before .before .loop-test .taken in
-    let w = c .before .before .before .before .before .before .before .before .loop .inv .1 in
-    walk-stop l e m b k at _ _ lt (c .before .before .before .before .before .before .number-at .ensures) (c .before .before .before .before .before .number-at2 .ensures) w (c .before .before .before .before .before .before .before .before .before .before .tokens-at .ensures) (c .before .before .before .check-equation .ensures) _ (c .before .r .given .1)
+    let at-r = c .before in
+    let at-check-equation = at-r .before .before in
+    let at-number-at2 = at-check-equation .before .before in
+    let at-number-at = at-number-at2 .before in
+    let at-loop-test = at-number-at .before in
+    let at-loop = at-loop-test .before in
+    let at-tokens-at = at-loop .before .before in
+    let at-start = at-tokens-at .before .before in
+    let p = at-start .pre in
+    let l = at-start .args .l in
+    let e = at-start .args .e in
+    let m = at-start .args .m in
+    let b = at-start .args .b .now in
+    let k = at-loop .loop .k in
+    let at = at-loop .loop .at in
+    let lt = at-loop-test .loop-test .taken in
+    let w = at-loop .loop .inv .1 in
+    walk-stop l e m b k at _ _ lt (at-number-at .number-at .ensures) (at-number-at2 .number-at2 .ensures) w
+    (at-tokens-at .tokens-at .ensures) (at-check-equation .check-equation .ensures) _ (at-r .r .given .1)
 
 enum-known-set : tie.Need-enum-known-set Inv-loop μ-loop
 enum-known-set c = search needs
@@ -115,19 +133,39 @@ loop-less c = search needs
 
 loop-again : tie.Need-loop-again Inv-loop μ-loop
 loop-again c =
-    let p = c .before .before .before .before .before .before .before .before .before .before .before .before .pre in
-    let l = c .before .before .before .before .before .before .before .before .before .before .before .before .args .l in
-    let e = c .before .before .before .before .before .before .before .before .before .before .before .before .args .e in
-    let m = c .before .before .before .before .before .before .before .before .before .before .before .before .args .m in
-    let b = c .before .before .before .before .before .before .before .before .before .before .before .before .args .b .now in
-    let k = c .before .before .before .before .before .before .before .before .loop .k in
-    let at = c .before .before .before .before .before .before .before .before .loop .at in
-    let lt = c .before .before .before .before .before .before .before .loop-test .taken in
-    let w = c .before .before .before .before .before .before .before .before .loop .inv .1 in
-    (omega arith, walk-step l e m b k at _ _ lt (c .before .before .before .before .before .before .number-at .ensures) (c .before .before .before .before .before .number-at2 .ensures) w (c .before .before .before .before .before .before .before .before .before .before .tokens-at .ensures) (c .before .before .before .check-equation .ensures) _ (c .before .set .given .1))
+    let at-set = c .before in
+    let at-check-equation = at-set .before .before in
+    let at-number-at2 = at-check-equation .before .before in
+    let at-number-at = at-number-at2 .before in
+    let at-loop-test = at-number-at .before in
+    let at-loop = at-loop-test .before in
+    let at-tokens-at = at-loop .before .before in
+    let at-start = at-tokens-at .before .before in
+    let p = at-start .pre in
+    let l = at-start .args .l in
+    let e = at-start .args .e in
+    let m = at-start .args .m in
+    let b = at-start .args .b .now in
+    let k = at-loop .loop .k in
+    let at = at-loop .loop .at in
+    let lt = at-loop-test .loop-test .taken in
+    let w = at-loop .loop .inv .1 in (
+      omega arith,
+      walk-step l e m b k at _ _ lt (at-number-at .number-at .ensures) (at-number-at2 .number-at2 .ensures) w
+          (at-tokens-at .tokens-at .ensures) (at-check-equation .check-equation .ensures) _ (at-set .set .given .1),
+    )
 
 returns-2 : tie.Need-returns-2 Inv-loop μ-loop
-returns-2 c = walk-end (c .before .before .before .before .before .args .l) (c .before .before .before .before .before .args .e) (c .before .before .before .before .before .args .m) (c .before .before .before .before .before .args .b .now) _ _ (c .loop-test .left) (c .before .loop .inv .1)
+returns-2 c =
+    let at-loop = c .before in
+    let at-start = at-loop .before .before .before .before in
+    walk-end (at-start .args .l) (at-start .args .e) (at-start .args .m) (at-start .args .b .now) _ _ (c .loop-test .left)
+    (at-loop .loop .inv .1)
 
 pub check-each-spec : {M : Type 1} → statement M
-check-each-spec = tie.close (tie.spec Inv-loop μ-loop mul-tokens-at add-tokens-at tokens-at-requires slice-aggregate-tokens loop-holds mul-number-at add-number-at number-at-requires cast-x mul-number-at-2 add-number-at-2 mul-number-at-3 add-number-at-3 number-at-requires-2 cast-n add-check-equation mul-check-equation sub-check-equation part-check-equation-start part-check-equation-end check-equation-requires enum-known-r returns enum-known-set add-at add-k loop-less loop-again returns-2)
+check-each-spec = tie.close
+    (tie.spec Inv-loop μ-loop mul-tokens-at add-tokens-at tokens-at-requires slice-aggregate-tokens loop-holds
+    mul-number-at add-number-at number-at-requires cast-x mul-number-at-2 add-number-at-2 mul-number-at-3 add-number-at-3
+    number-at-requires-2 cast-n add-check-equation mul-check-equation sub-check-equation part-check-equation-start
+    part-check-equation-end check-equation-requires enum-known-r returns enum-known-set add-at add-k loop-less loop-again
+    returns-2)

@@ -23,7 +23,13 @@ cast-m : tie.Need-cast-m
 cast-m c = search needs
 
 returns-2 : tie.Need-returns-2
-returns-2 c = equations-long (c .before .before .before .before .before .args .l) (c .before .before .before .before .before .args .b .now) _ _ (c .before .before .number-at .ensures) (c .before .number-at2 .ensures) (c .before .before .before .if1 .left) (not-true _ (c .if2 .taken))
+returns-2 c =
+    let at-number-at2 = c .before in
+    let at-number-at = at-number-at2 .before in
+    let at-if1 = at-number-at .before in
+    let at-start = at-if1 .before .before in
+    equations-long (at-start .args .l) (at-start .args .b .now) _ _ (at-number-at .number-at .ensures)
+    (at-number-at2 .number-at2 .ensures) (at-if1 .if1 .left) (not-true _ (c .if2 .taken))
 
 mul-if3 : tie.Need-mul-if3
 mul-if3 c = search needs
@@ -38,7 +44,14 @@ add-if3-2 : tie.Need-add-if3-2
 add-if3-2 c = search needs
 
 returns-3 : tie.Need-returns-3
-returns-3 c = equations-torn (c .before .before .before .before .before .before .args .l) (c .before .before .before .before .before .before .args .b .now) _ _ (c .before .before .before .number-at .ensures) (c .before .before .number-at2 .ensures) (c .before .before .before .before .if1 .left) (not-false _ (c .before .if2 .left)) (c .if3 .taken)
+returns-3 c =
+    let at-if2 = c .before in
+    let at-number-at2 = at-if2 .before in
+    let at-number-at = at-number-at2 .before in
+    let at-if1 = at-number-at .before in
+    let at-start = at-if1 .before .before in
+    equations-torn (at-start .args .l) (at-start .args .b .now) _ _ (at-number-at .number-at .ensures)
+    (at-number-at2 .number-at2 .ensures) (at-if1 .if1 .left) (not-false _ (at-if2 .if2 .left)) (c .if3 .taken)
 
 mul-sum-at : tie.Need-mul-sum-at
 mul-sum-at c = search needs
@@ -47,23 +60,54 @@ add-sum-at : tie.Need-add-sum-at
 add-sum-at c = search needs
 
 sum-at-requires : tie.Need-sum-at-requires
-sum-at-requires c κs = let few = both-true _ _ (not-false _ (c .before .if2 .left)) in (leb-true _ 64 (few .0), omega (arith, c .if3 .left))
+sum-at-requires c κs =
+    let at-if2 = c .before in
+    let few = both-true _ _ (not-false _ (at-if2 .if2 .left)) in (leb-true _ 64 (few .0), omega (arith, c .if3 .left))
 
 returns-4 : tie.Need-returns-4
 returns-4 c =
-    equations-sum (c .before .before .before .before .before .before .before .before .args .l) (c .before .before .before .before .before .before .before .before .args .b .now) _ _ (c .before .before .before .before .before .number-at .ensures) (c .before .before .before .before .number-at2 .ensures) (c .before .before .before .before .before .before .if1 .left) (not-false _ (c .before .before .before .if2 .left)) (c .before .before .if3 .left)
-    (λ q. c .if4 .taken (c .before .sum-at .ensures ∙ q))
+    let at-sum-at = c .before in
+    let at-if3 = at-sum-at .before in
+    let at-if2 = at-if3 .before in
+    let at-number-at2 = at-if2 .before in
+    let at-number-at = at-number-at2 .before in
+    let at-if1 = at-number-at .before in
+    let at-start = at-if1 .before .before in
+    equations-sum (at-start .args .l) (at-start .args .b .now) _ _ (at-number-at .number-at .ensures)
+    (at-number-at2 .number-at2 .ensures) (at-if1 .if1 .left) (not-false _ (at-if2 .if2 .left)) (at-if3 .if3 .left)
+    (λ q. c .if4 .taken (at-sum-at .sum-at .ensures ∙ q))
 
 check-each-requires : tie.Need-check-each-requires
 check-each-requires c κs =
-    let few = both-true _ _ (not-false _ (c .before .before .before .if2 .left)) in
-    (c .before .before .before .before .before .before .before .before .pre, leb-true _ 64 (few .0), leb-true _ 1024 (few .1), sym (c .before .before .if3 .left), sym (c .before .sum-at .ensures) ∙ c .if4 .left)
+    let at-sum-at = c .before in
+    let at-if3 = at-sum-at .before in
+    let at-if2 = at-if3 .before in
+    let at-start = at-if2 .before .before .before .before .before in
+    let few = both-true _ _ (not-false _ (at-if2 .if2 .left)) in (
+      at-start .pre,
+      leb-true _ 64 (few .0),
+      leb-true _ 1024 (few .1),
+      sym (at-if3 .if3 .left),
+      sym
+          (at-sum-at .sum-at .ensures) ∙ c .if4 .left,
+    )
 
 returns-5 : tie.Need-returns-5
 returns-5 c =
+    let at-if4 = c .before in
+    let at-sum-at = at-if4 .before in
+    let at-if3 = at-sum-at .before in
+    let at-if2 = at-if3 .before in
+    let at-number-at2 = at-if2 .before in
+    let at-number-at = at-number-at2 .before in
+    let at-if1 = at-number-at .before in
+    let at-start = at-if1 .before .before in
     c .check-each .ensures
-    ∙ equations-each (c .before .before .before .before .before .before .before .before .before .args .l) (c .before .before .before .before .before .before .before .before .before .args .b .now) _ _ (c .before .before .before .before .before .before .number-at .ensures) (c .before .before .before .before .before .number-at2 .ensures) (c .before .before .before .before .before .before .before .if1 .left) (not-false _ (c .before .before .before .before .if2 .left)) (c .before .before .before .if3 .left)
-    (sym (c .before .before .sum-at .ensures) ∙ c .before .if4 .left)
+    ∙ equations-each (at-start .args .l) (at-start .args .b .now) _ _ (at-number-at .number-at .ensures)
+    (at-number-at2 .number-at2 .ensures) (at-if1 .if1 .left) (not-false _ (at-if2 .if2 .left)) (at-if3 .if3 .left)
+    (sym (at-sum-at .sum-at .ensures) ∙ at-if4 .if4 .left)
 
 pub check-equations-spec : {M : Type 1} → statement M
-check-equations-spec = tie.close (tie.spec returns number-at-requires cast-e number-at-requires-2 cast-m returns-2 mul-if3 add-if3 mul-if3-2 add-if3-2 returns-3 mul-sum-at add-sum-at sum-at-requires returns-4 check-each-requires returns-5)
+check-equations-spec = tie.close
+    (tie.spec returns number-at-requires cast-e number-at-requires-2 cast-m returns-2 mul-if3 add-if3 mul-if3-2 add-if3-2
+    returns-3 mul-sum-at add-sum-at sum-at-requires returns-4 check-each-requires returns-5)

@@ -10,7 +10,10 @@ refused-requires : tie.Need-refused-requires
 refused-requires c κs = search needs
 
 returns : tie.Need-returns
-returns c = c .refused .ensures ∙ read-unsized (c .before .before .before .args .extent) (c .before .before .before .args .b .now) (c .before .if1 .taken)
+returns c =
+    let at-if1 = c .before in
+    let at-start = at-if1 .before .before in
+    c .refused .ensures ∙ read-unsized (at-start .args .extent) (at-start .args .b .now) (at-if1 .if1 .taken)
 
 number-at-requires : tie.Need-number-at-requires
 number-at-requires c κs = search needs
@@ -32,18 +35,33 @@ refused-requires-2 c κs = search needs
 
 returns-2 : tie.Need-returns-2
 returns-2 c =
+    let at-if2 = c .before in
+    let at-good-width = at-if2 .before in
+    let at-number-at2 = at-good-width .before in
+    let at-number-at = at-number-at2 .before in
+    let at-if1 = at-number-at .before in
+    let at-start = at-if1 .before .before in
     c .refused2 .ensures
-    ∙ read-width (c .before .before .before .before .before .before .before .args .extent) (c .before .before .before .before .before .before .before .args .b .now) _ _ (c .before .before .before .before .number-at .ensures) (c .before .before .before .number-at2 .ensures) (c .before .before .before .before .before .if1 .left)
-    (sym (c .before .before .good-width .ensures) ∙ not-true _ (c .before .if2 .taken))
+    ∙ read-width (at-start .args .extent) (at-start .args .b .now) _ _ (at-number-at .number-at .ensures)
+    (at-number-at2 .number-at2 .ensures) (at-if1 .if1 .left)
+    (sym (at-good-width .good-width .ensures) ∙ not-true _ (at-if2 .if2 .taken))
 
 refused-requires-3 : tie.Need-refused-requires-3
 refused-requires-3 c κs = search needs
 
 returns-3 : tie.Need-returns-3
 returns-3 c =
+    let at-if3 = c .before in
+    let at-if2 = at-if3 .before in
+    let at-good-width = at-if2 .before in
+    let at-number-at2 = at-good-width .before in
+    let at-number-at = at-number-at2 .before in
+    let at-if1 = at-number-at .before in
+    let at-start = at-if1 .before .before in
     c .refused3 .ensures
-    ∙ read-many (c .before .before .before .before .before .before .before .before .args .extent) (c .before .before .before .before .before .before .before .before .args .b .now) _ _ (c .before .before .before .before .before .number-at .ensures) (c .before .before .before .before .number-at2 .ensures) (c .before .before .before .before .before .before .if1 .left)
-    (sym (c .before .before .before .good-width .ensures) ∙ not-false _ (c .before .before .if2 .left)) (c .before .if3 .taken)
+    ∙ read-many (at-start .args .extent) (at-start .args .b .now) _ _ (at-number-at .number-at .ensures)
+    (at-number-at2 .number-at2 .ensures) (at-if1 .if1 .left)
+    (sym (at-good-width .good-width .ensures) ∙ not-false _ (at-if2 .if2 .left)) (at-if3 .if3 .taken)
 
 mul-fits : tie.Need-mul-fits
 mul-fits c = search needs
@@ -59,22 +77,53 @@ refused-requires-4 c κs = search needs
 
 returns-4 : tie.Need-returns-4
 returns-4 c =
+    let at-if4 = c .before in
+    let at-fits2 = at-if4 .before in
+    let at-if3 = at-fits2 .before in
+    let at-if2 = at-if3 .before in
+    let at-good-width = at-if2 .before in
+    let at-number-at2 = at-good-width .before in
+    let at-number-at = at-number-at2 .before in
+    let at-if1 = at-number-at .before in
+    let at-start = at-if1 .before .before in
     c .refused4 .ensures
-    ∙ read-torn (c .before .before .before .before .before .before .before .before .before .before .args .extent) (c .before .before .before .before .before .before .before .before .before .before .args .b .now) _ _ (c .before .before .before .before .before .before .before .number-at .ensures) (c .before .before .before .before .before .before .number-at2 .ensures) (c .before .before .before .before .before .before .before .before .if1 .left)
-    (sym (c .before .before .before .before .before .good-width .ensures) ∙ not-false _ (c .before .before .before .before .if2 .left)) (c .before .before .before .if3 .left) (sym (c .before .before .fits2 .ensures) ∙ not-true _ (c .before .if4 .taken))
+    ∙ read-torn (at-start .args .extent) (at-start .args .b .now) _ _ (at-number-at .number-at .ensures)
+    (at-number-at2 .number-at2 .ensures) (at-if1 .if1 .left)
+    (sym (at-good-width .good-width .ensures) ∙ not-false _ (at-if2 .if2 .left)) (at-if3 .if3 .left)
+    (sym (at-fits2 .fits2 .ensures) ∙ not-true _ (at-if4 .if4 .taken))
 
 read-entries-requires : tie.Need-read-entries-requires
-read-entries-requires c κs = (
-  sym (c .before .before .before .before .good-width .ensures) ∙ not-false _ (c .before .before .before .if2 .left),
-  c .before .before .if3 .left,
-  fits-room (c .before .before .before .before .before .before .before .before .before .args .extent) _ (length (c .before .before .before .before .before .before .before .before .before .args .b .now)) (sym (c .before .fits2 .ensures) ∙ not-false _ (c .if4 .left)),
-)
+read-entries-requires c κs =
+    let at-fits2 = c .before in
+    let at-if3 = at-fits2 .before in
+    let at-if2 = at-if3 .before in
+    let at-good-width = at-if2 .before in
+    let at-start = at-good-width .before .before .before .before .before in (
+      sym (at-good-width .good-width .ensures) ∙ not-false _ (at-if2 .if2 .left),
+      at-if3 .if3 .left,
+      fits-room (at-start .args .extent) _ (length (at-start .args .b .now))
+          (sym (at-fits2 .fits2 .ensures) ∙ not-false _ (c .if4 .left)),
+    )
 
 returns-5 : tie.Need-returns-5
 returns-5 c =
+    let at-if4 = c .before in
+    let at-fits2 = at-if4 .before in
+    let at-if3 = at-fits2 .before in
+    let at-if2 = at-if3 .before in
+    let at-good-width = at-if2 .before in
+    let at-number-at2 = at-good-width .before in
+    let at-number-at = at-number-at2 .before in
+    let at-if1 = at-number-at .before in
+    let at-start = at-if1 .before .before in
     c .read-entries .ensures
-    ∙ read-all (c .before .before .before .before .before .before .before .before .before .before .args .extent) (c .before .before .before .before .before .before .before .before .before .before .args .b .now) _ _ (c .before .before .before .before .before .before .before .number-at .ensures) (c .before .before .before .before .before .before .number-at2 .ensures) (c .before .before .before .before .before .before .before .before .if1 .left)
-    (sym (c .before .before .before .before .before .good-width .ensures) ∙ not-false _ (c .before .before .before .before .if2 .left)) (c .before .before .before .if3 .left) (sym (c .before .before .fits2 .ensures) ∙ not-false _ (c .before .if4 .left))
+    ∙ read-all (at-start .args .extent) (at-start .args .b .now) _ _ (at-number-at .number-at .ensures)
+    (at-number-at2 .number-at2 .ensures) (at-if1 .if1 .left)
+    (sym (at-good-width .good-width .ensures) ∙ not-false _ (at-if2 .if2 .left)) (at-if3 .if3 .left)
+    (sym (at-fits2 .fits2 .ensures) ∙ not-false _ (at-if4 .if4 .left))
 
 pub read-table-spec : {M : Type 1} → statement M
-read-table-spec = tie.close (tie.spec refused-requires returns number-at-requires cast-l number-at-requires-2 cast-n good-width-requires refused-requires-2 returns-2 refused-requires-3 returns-3 mul-fits add-fits fits-requires refused-requires-4 returns-4 read-entries-requires returns-5)
+read-table-spec = tie.close
+    (tie.spec refused-requires returns number-at-requires cast-l number-at-requires-2 cast-n good-width-requires
+    refused-requires-2 returns-2 refused-requires-3 returns-3 mul-fits add-fits fits-requires refused-requires-4 returns-4
+    read-entries-requires returns-5)

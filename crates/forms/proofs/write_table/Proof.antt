@@ -1,8 +1,7 @@
-use mathlib.Core.Path.{_≡_, sym, _∙_}
+use mathlib.Core.Path.{sym, _∙_}
 use native.Mathlib.Omega.{arith}
 use borrow.Author.Needs.{needs}
-use lib.ListN.{length}
-use Rattle.forms.proofs.Outcomes.{write-refused, write-narrow, write-fits, stored, good-few}
+use Rattle.forms.proofs.Outcomes.{write-refused, write-narrow, write-fits, stored, good-few, good-cares, good-values}
 use Rattle.forms.proofs.write_table.Statement.{statement}
 use Rattle.forms.proofs.write_table.Tie as tie
 
@@ -16,25 +15,43 @@ enum-told : tie.Need-enum-told
 enum-told c = search needs
 
 mul-if1 : tie.Need-mul-if1
-mul-if1 c = let few = good-few (c .before .before .check .ensures .1 .0 (c .enum-told .given .1)) in search (needs, few)
+mul-if1 c =
+    let at-check = c .before .before in
+    let few = good-few (at-check .check .ensures .1 .0 (c .enum-told .given .1)) in search (needs, few)
 
 add-if1 : tie.Need-add-if1
-add-if1 c = let few = good-few (c .before .before .check .ensures .1 .0 (c .enum-told .given .1)) in search (needs, few)
+add-if1 c =
+    let at-check = c .before .before in
+    let few = good-few (at-check .check .ensures .1 .0 (c .enum-told .given .1)) in search (needs, few)
 
 returns : tie.Need-returns
-returns c = write-narrow _ _ (sym (c .before .before .before .check .ensures .0) ∙ c .before .enum-told .given .1) (c .if1 .taken)
+returns c =
+    let at-enum-told = c .before in
+    let at-check = at-enum-told .before .before in
+    write-narrow _ _ (sym (at-check .check .ensures .0) ∙ at-enum-told .enum-told .given .1) (c .if1 .taken)
 
 put-number-requires : tie.Need-put-number-requires
 put-number-requires c κs = search needs
 
 cast-put-number : tie.Need-cast-put-number
-cast-put-number c = let few = good-few (c .before .before .before .before .before .before .before .before .before .before .check .ensures .1 .0 (c .before .before .before .before .before .before .before .before .enum-told .given .1)) in search (needs, few)
+cast-put-number c =
+    let at-enum-told = c .before .before .before .before .before .before .before .before in
+    let at-check = at-enum-told .before .before in
+    let few = good-few (at-check .check .ensures .1 .0 (at-enum-told .enum-told .given .1)) in search (needs, few)
 
 put-number-requires-2 : tie.Need-put-number-requires-2
 put-number-requires-2 c κs = search needs
 
 put-words-requires : tie.Need-put-words-requires
-put-words-requires c κs = let few = good-few (c .before .before .before .before .before .before .before .before .before .before .before .before .before .before .before .check .ensures .1 .0 (c .before .before .before .before .before .before .before .before .before .before .before .before .before .enum-told .given .1)) in (few, omega (arith, few, c .before .before .before .before .before .before .before .before .before .before .before .before .if1 .left, c .before .before .before .before .before .before .before .before .put-number .kept .0, c .before .before .before .before .put-number2 .kept .0))
+put-words-requires c κs =
+    let at-put-number2 = c .before .before .before .before in
+    let at-put-number = at-put-number2 .before .before .before .before in
+    let at-if1 = at-put-number .before .before .before .before in
+    let at-enum-told = at-if1 .before in
+    let at-check = at-enum-told .before .before in
+    let few = good-few (at-check .check .ensures .1 .0 (at-enum-told .enum-told .given .1)) in
+        (few, omega (arith, few, at-if1 .if1 .left, at-put-number .put-number .kept .0, at-put-number2 .put-number2 .kept
+        .0))
 
 mul-put-words : tie.Need-mul-put-words
 mul-put-words c = search needs
@@ -44,8 +61,15 @@ add-put-words c = search needs
 
 put-words-requires-2 : tie.Need-put-words-requires-2
 put-words-requires-2 c κs =
-    let few = good-few (c .before .before .before .before .before .before .before .before .before .before .before .before .before .before .before .before .before .before .before .before .check .ensures .1 .0 (c .before .before .before .before .before .before .before .before .before .before .before .before .before .before .before .before .before .before .enum-told .given .1)) in
-    (few, omega (arith, few, c .before .before .before .before .before .before .before .before .before .before .before .before .before .before .before .before .before .if1 .left, c .before .before .before .before .before .before .before .before .before .before .before .before .before .put-number .kept .0, c .before .before .before .before .before .before .before .before .before .put-number2 .kept .0, c .before .before .before .before .put-words .kept .0))
+    let at-put-words = c .before .before .before .before in
+    let at-put-number2 = at-put-words .before .before .before .before .before in
+    let at-put-number = at-put-number2 .before .before .before .before in
+    let at-if1 = at-put-number .before .before .before .before in
+    let at-enum-told = at-if1 .before in
+    let at-check = at-enum-told .before .before in
+    let few = good-few (at-check .check .ensures .1 .0 (at-enum-told .enum-told .given .1)) in 
+    (few, omega (arith, few, at-if1 .if1 .left, at-put-number .put-number .kept .0, at-put-number2 .put-number2 .kept .0,
+    at-put-words .put-words .kept .0))
 
 returns-2 : tie.Need-returns-2
 returns-2 c = write-refused _ _ (sym (c .before .before .before .check .ensures .0) ∙ c .before .r .given .1)
@@ -55,15 +79,25 @@ same-length c = search needs
 
 returns-3 : tie.Need-returns-3
 returns-3 c =
-    let few = good-few (c .before .before .before .before .before .before .before .before .before .before .before .before .before .before .before .before .before .before .before .before .before .before .before .check .ensures .1 .0 (c .before .before .before .before .before .before .before .before .before .before .before .before .before .before .before .before .before .before .before .before .before .enum-told .given .1)) in
-    let t = c .before .before .before .before .before .before .before .before .before .before .before .before .before .before .before .before .before .before .before .before .before .before .before .before .before .args .t in
-    let cs : length (t .care) ≡ 256 = search needs in
-    let vs : length (t .value) ≡ 256 = search needs in
-    let out = c .before .before .before .before .before .before .before .before .before .before .before .before .before .before .before .before .before .before .before .before .before .before .before .before .before .args .out .now in (
-      write-fits t out (sym (c .before .before .before .before .before .before .before .before .before .before .before .before .before .before .before .before .before .before .before .before .before .before .before .check .ensures .0) ∙ c .before .before .before .before .before .before .before .before .before .before .before .before .before .before .before .before .before .before .before .before .before .enum-told .given .1) (c .before .before .before .before .before .before .before .before .before .before .before .before .before .before .before .before .before .before .before .before .if1 .left),
-      rw (c .before .before .put-words2 .ensures, c .before .before .before .before .before .before .before .put-words .ensures, c .before .before .before .before .before .before .before .before .before .before .before .before .put-number2 .ensures, c .before .before .before .before .before .before .before .before .before .before .before .before .before .before .before .before .put-number .ensures)
-          (stored t out (omega (arith, few, cs)) (omega (arith, few, vs)) (c .before .before .before .before .before .before .before .before .before .before .before .before .before .before .before .before .before .before .before .before .if1 .left)),
+    let at-put-words2 = c .before .before in
+    let at-put-words = at-put-words2 .before .before .before .before .before in
+    let at-put-number2 = at-put-words .before .before .before .before .before in
+    let at-put-number = at-put-number2 .before .before .before .before in
+    let at-if1 = at-put-number .before .before .before .before in
+    let at-enum-told = at-if1 .before in
+    let at-check = at-enum-told .before .before in
+    let at-start = at-check .before .before in
+    let good = at-check .check .ensures .1 .0 (at-enum-told .enum-told .given .1) in
+    let t = at-start .args .t in
+    let out = at-start .args .out .now in (
+      write-fits t out (sym (at-check .check .ensures .0) ∙ at-enum-told .enum-told .given .1) (at-if1 .if1 .left),
+      rw (at-put-words2 .put-words2 .ensures, at-put-words .put-words .ensures, at-put-number2 .put-number2 .ensures,
+      at-put-number .put-number .ensures)
+      (stored t out (good-cares good) (good-values good) (at-if1 .if1 .left)),
     )
 
 pub write-table-spec : {M : Type 1} → statement M
-write-table-spec = tie.close (tie.spec check-requires enum-known-r enum-told mul-if1 add-if1 returns put-number-requires cast-put-number put-number-requires-2 put-words-requires mul-put-words add-put-words put-words-requires-2 returns-2 same-length returns-3)
+write-table-spec = tie.close
+    (tie.spec check-requires enum-known-r enum-told mul-if1 add-if1 returns put-number-requires cast-put-number
+    put-number-requires-2 put-words-requires mul-put-words add-put-words put-words-requires-2 returns-2 same-length
+    returns-3)

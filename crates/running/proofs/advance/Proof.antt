@@ -16,7 +16,15 @@ counted-requires : tie.Need-counted-requires
 counted-requires c κs = search needs
 
 returns : tie.Need-returns
-returns c = rw (c .before .answer-number .ensures, c .counted .ensures) (advance-told (c .before .before .before .before .before .before .before .args .s) (c .before .before .before .before .before .before .before .args .x) (c .before .before .before .before .before .before .before .args .term .now) (c .before .before .before .before .side-numbered .ensures) (c .before .before .before .equation-term .ensures))
+returns c =
+    let at-answer-number = c .before in
+    let at-equation-term = at-answer-number .before .before in
+    let at-side-numbered = at-equation-term .before in
+    let at-start = at-side-numbered .before .before .before in
+    rw (at-answer-number .answer-number .ensures, c .counted .ensures)
+    (advance-told (at-start .args .s) (at-start .args .x) (at-start .args .term .now)
+    (at-side-numbered .side-numbered .ensures) (at-equation-term .equation-term .ensures))
 
 pub advance-spec : {M : Type 1} → statement M
-advance-spec = tie.close (tie.spec side-numbered-requires equation-term-requires answer-number-requires counted-requires returns)
+advance-spec = tie.close
+    (tie.spec side-numbered-requires equation-term-requires answer-number-requires counted-requires returns)

@@ -29,7 +29,12 @@ side-numbered-requires : tie.Need-side-numbered-requires Inv-loop μ-loop
 side-numbered-requires c κs = search needs
 
 loop-holds : tie.Need-loop-holds Inv-loop μ-loop
-loop-holds c = (omega arith, going-start (c .before .before .before .before .args .side) (c .before .before .before .before .args .e) (c .before .before .before .before .args .m) (c .before .before .before .before .args .q .now) (c .before .before .before .before .args .t) (c .before .before .before .before .pre .3))
+loop-holds c =
+    let at-start = c .before .before .before .before in (
+      omega arith,
+      going-start (at-start .args .side) (at-start .args .e) (at-start .args .m) (at-start .args .q .now)
+          (at-start .args .t) (at-start .pre .3),
+    )
 
 mul-number-at : tie.Need-mul-number-at Inv-loop μ-loop
 mul-number-at c = search needs
@@ -56,7 +61,10 @@ add-number-at-3 : tie.Need-add-number-at-3 Inv-loop μ-loop
 add-number-at-3 c = search needs
 
 number-at-requires-2 : tie.Need-number-at-requires-2 Inv-loop μ-loop
-number-at-requires-2 c κs = omega (arith, c .before .before .before .before .before .before .before .pre .2, c .before .loop-test .taken)
+number-at-requires-2 c κs =
+    let at-loop-test = c .before in
+    let at-start = at-loop-test .before .before .before .before .before .before in
+    omega (arith, at-start .pre .2, at-loop-test .loop-test .taken)
 
 cast-n : tie.Need-cast-n Inv-loop μ-loop
 cast-n c = search needs
@@ -75,13 +83,22 @@ part-equation-start c = search needs
 
 part-equation-end : tie.Need-part-equation-end Inv-loop μ-loop
 part-equation-end c =
-    let p = c .before .before .before .before .before .before .before .before .pre in
-    let e = c .before .before .before .before .before .before .before .before .args .e in
-    let m = c .before .before .before .before .before .before .before .before .args .m in
-    let q = c .before .before .before .before .before .before .before .before .args .q .now in
-    let w = c .before .before .before .loop in
-    let lt = c .before .before .loop-test .taken in
-    omega (arith, p .1, place-room e m q (w .k) (w .at) _ _ lt (c .before .number-at .ensures) (c .number-at2 .ensures) (w .inv .1 .0))
+    let at-number-at = c .before in
+    let at-loop-test = at-number-at .before in
+    let at-loop = at-loop-test .before in
+    let at-start = at-loop .before .before .before .before .before in
+    let p = at-start .pre in
+    let e = at-start .args .e in
+    let m = at-start .args .m in
+    let q = at-start .args .q .now in
+    let w = at-loop .loop in
+    let lt = at-loop-test .loop-test .taken in
+    omega (
+      arith,
+      p .1,
+      place-room e m q (w .k) (w .at) _ _ lt (at-number-at .number-at .ensures) (c .number-at2 .ensures)
+          (w .inv .1 .0),
+    )
 
 equation-requires : tie.Need-equation-requires Inv-loop μ-loop
 equation-requires c κs = search needs
@@ -97,13 +114,25 @@ cast-t32 c = search needs
 
 returns : tie.Need-returns Inv-loop μ-loop
 returns c =
-    let p = c .before .before .before .before .before .before .before .before .before .before .before .before .before .before .before .pre in
-    let e = c .before .before .before .before .before .before .before .before .before .before .before .before .before .before .before .args .e in
-    let m = c .before .before .before .before .before .before .before .before .before .before .before .before .before .before .before .args .m in
-    let q = c .before .before .before .before .before .before .before .before .before .before .before .before .before .before .before .args .q .now in
-    let w = c .before .before .before .before .before .before .before .before .before .before .loop in
-    let lt = c .before .before .before .before .before .before .before .before .before .loop-test .taken in
-    rw (c .refusal-number .ensures) (going-stop (c .before .before .before .before .before .before .before .before .before .before .before .before .before .before .before .args .side) e m q (c .before .before .before .before .before .before .before .before .before .before .before .before .before .before .before .args .t) (w .u) (w .k) (w .at) _ _ lt (c .before .before .before .before .before .before .before .before .number-at .ensures) (c .before .before .before .before .before .before .before .number-at2 .ensures) (w .inv .1) (c .before .before .before .before .before .before .before .before .before .before .before .before .before .tokens-at .ensures) (c .before .before .before .before .before .before .before .before .before .before .before .side-numbered .ensures) (c .before .before .before .before .before .equation .ensures) (c .before .before .answer .given .1))
+    let at-answer = c .before .before in
+    let at-equation = at-answer .before .before .before in
+    let at-number-at2 = at-equation .before .before in
+    let at-number-at = at-number-at2 .before in
+    let at-loop-test = at-number-at .before in
+    let at-loop = at-loop-test .before in
+    let at-side-numbered = at-loop .before in
+    let at-tokens-at = at-side-numbered .before .before in
+    let at-start = at-tokens-at .before .before in
+    let p = at-start .pre in
+    let e = at-start .args .e in
+    let m = at-start .args .m in
+    let q = at-start .args .q .now in
+    let w = at-loop .loop in
+    let lt = at-loop-test .loop-test .taken in
+    rw (c .refusal-number .ensures)
+    (going-stop (at-start .args .side) e m q (at-start .args .t) (w .u) (w .k) (w .at) _ _ lt
+    (at-number-at .number-at .ensures) (at-number-at2 .number-at2 .ensures) (w .inv .1) (at-tokens-at .tokens-at .ensures)
+    (at-side-numbered .side-numbered .ensures) (at-equation .equation .ensures) (at-answer .answer .given .1))
 
 enum-told : tie.Need-enum-told Inv-loop μ-loop
 enum-told c = search needs
@@ -119,21 +148,41 @@ loop-less c = search needs
 
 loop-again : tie.Need-loop-again Inv-loop μ-loop
 loop-again c =
-    let p = c .before .before .before .before .before .before .before .before .before .before .before .before .before .pre in
-    let e = c .before .before .before .before .before .before .before .before .before .before .before .before .before .args .e in
-    let m = c .before .before .before .before .before .before .before .before .before .before .before .before .before .args .m in
-    let q = c .before .before .before .before .before .before .before .before .before .before .before .before .before .args .q .now in
-    let w = c .before .before .before .before .before .before .before .before .loop in
-    let lt = c .before .before .before .before .before .before .before .loop-test .taken in
-    (omega arith, going-step (c .before .before .before .before .before .before .before .before .before .before .before .before .before .args .side) e m q (c .before .before .before .before .before .before .before .before .before .before .before .before .before .args .t) (w .u) (w .k) (w .at) _ _ lt (c .before .before .before .before .before .before .number-at .ensures) (c .before .before .before .before .before .number-at2 .ensures) (w .inv .1) (c .before .before .before .before .before .before .before .before .before .before .before .tokens-at .ensures) (c .before .before .before .before .before .before .before .before .before .side-numbered .ensures) (c .before .before .before .equation .ensures) (c .enum-told .given .1))
+    let at-equation = c .before .before .before in
+    let at-number-at2 = at-equation .before .before in
+    let at-number-at = at-number-at2 .before in
+    let at-loop-test = at-number-at .before in
+    let at-loop = at-loop-test .before in
+    let at-side-numbered = at-loop .before in
+    let at-tokens-at = at-side-numbered .before .before in
+    let at-start = at-tokens-at .before .before in
+    let p = at-start .pre in
+    let e = at-start .args .e in
+    let m = at-start .args .m in
+    let q = at-start .args .q .now in
+    let w = at-loop .loop in
+    let lt = at-loop-test .loop-test .taken in (
+      omega arith,
+      going-step (at-start .args .side) e m q (at-start .args .t) (w .u) (w .k) (w .at) _ _ lt
+          (at-number-at .number-at .ensures) (at-number-at2 .number-at2 .ensures) (w .inv .1) (at-tokens-at .tokens-at .ensures)
+          (at-side-numbered .side-numbered .ensures) (at-equation .equation .ensures) (c .enum-told .given .1),
+    )
 
 cast-t33 : tie.Need-cast-t33 Inv-loop μ-loop
 cast-t33 c = search needs
 
 returns-2 : tie.Need-returns-2 Inv-loop μ-loop
 returns-2 c =
-    let w = c .before .loop in
-    let d : w .k ≡ c .before .before .before .before .before .before .args .e = omega arith in going-end (c .before .before .before .before .before .before .args .side) (c .before .before .before .before .before .before .args .e) (c .before .before .before .before .before .before .args .m) (c .before .before .before .before .before .before .args .q .now) (c .before .before .before .before .before .before .args .t) (w .u) (w .k) (w .at) d (w .inv .1)
+    let at-loop = c .before in
+    let at-start = at-loop .before .before .before .before .before in
+    let w = at-loop .loop in
+    let d : w .k ≡ at-start .args .e = omega arith in going-end (at-start .args .side) (at-start .args .e)
+    (at-start .args .m) (at-start .args .q .now) (at-start .args .t) (w .u) (w .k) (w .at) d (w .inv .1)
 
 pub apply-spec : {M : Type 1} → statement M
-apply-spec = tie.close (tie.spec Inv-loop μ-loop mul-tokens-at add-tokens-at tokens-at-requires slice-aggregate-tokens side-numbered-requires loop-holds mul-number-at add-number-at number-at-requires cast-x mul-number-at-2 add-number-at-2 mul-number-at-3 add-number-at-3 number-at-requires-2 cast-n add-equation mul-equation sub-equation part-equation-start part-equation-end equation-requires enum-known-answer refusal-number-requires cast-t32 returns enum-told add-at add-k loop-less loop-again cast-t33 returns-2)
+apply-spec = tie.close
+    (tie.spec Inv-loop μ-loop mul-tokens-at add-tokens-at tokens-at-requires slice-aggregate-tokens side-numbered-requires
+    loop-holds mul-number-at add-number-at number-at-requires cast-x mul-number-at-2 add-number-at-2 mul-number-at-3
+    add-number-at-3 number-at-requires-2 cast-n add-equation mul-equation sub-equation part-equation-start
+    part-equation-end equation-requires enum-known-answer refusal-number-requires cast-t32 returns enum-told add-at add-k
+    loop-less loop-again cast-t33 returns-2)

@@ -14,7 +14,12 @@ same-length c = search needs
 
 returns : tie.Need-returns
 unfolding state-number state-bytes
-returns c = (rw (c .answer-number .ensures, c .before .before .before .write-table .ensures .0), rw (c .before .before .before .write-table .ensures .1, c .before .before .before .write-table .ensures .0))
+returns c =
+    let at-write-table = c .before .before .before in (
+      rw (c .answer-number .ensures, at-write-table .write-table .ensures .0),
+      rw
+          (at-write-table .write-table .ensures .1, at-write-table .write-table .ensures .0),
+    )
 
 pub write-spec : {M : Type 1} → statement M
 write-spec = tie.close (tie.spec write-table-requires answer-number-requires same-length returns)
