@@ -1,12 +1,14 @@
-# make test      the gate: the plain Rust tests, the comparison through the static library, the stack test, then every proof and
+# make test      the gate: every call and example through the static library, the plain Rust tests, then every proof and
 #                must-fail edit
-# make bench     times ours against plain Rust and prints ratios
+# make calls     compares every exported call with plain Rust, then again between fences and under the address sanitizer
 # make examples  the C interface: header, refusals and examples, in place and installed
+# make bench     times ours against plain Rust and prints ratios
 # make install   the header, the library, its pkg-config file and the examples, under PREFIX
-.PHONY: test bench same stack fmt library examples install
+.PHONY: test bench same calls stack fmt library examples install
 
 LIBRARY := $(CURDIR)/target/staticlib
-CARGO := CARGO_TARGET_DIR=$(CURDIR)/target/cargo SHARING_LIB_DIR=$(LIBRARY) cargo
+FOLDERS := CARGO_TARGET_DIR=$(CURDIR)/target/cargo SHARING_LIB_DIR=$(LIBRARY)
+CARGO := $(FOLDERS) cargo
 BENCH := $(CARGO) run --quiet --release --manifest-path bench/Cargo.toml --
 
 VERSION := 0.1.0
@@ -15,13 +17,17 @@ PREFIX ?= /usr/local
 BASE := $(abspath $(PREFIX))
 INTO := $(DESTDIR)$(BASE)
 
-test: same stack
+test: same calls examples stack
 	@$(CARGO) test --quiet --manifest-path reference/Cargo.toml
 	@rt ci
 
 same:
 	@rt staticlib timing
 	@$(BENCH) --same
+
+calls: library
+	@$(CARGO) run --quiet --release --manifest-path tests/calls/Cargo.toml
+	@$(FOLDERS) tests/sanitized
 
 stack:
 	@tests/stack
@@ -33,7 +39,8 @@ examples: library
 	@tests/c
 	@tests/install
 
-install: library
+# BUILT=1 says that the library is up to date.
+install: $(if $(BUILT),,library)
 	@install -d $(INTO)/include $(INTO)/lib/pkgconfig $(INTO)/share/doc/sharing/examples
 	@install -m 644 include/sharing.h $(INTO)/include
 	@install -m 644 $(LIBRARY)/libanalyser.a $(INTO)/lib/libsharing.a
@@ -49,3 +56,4 @@ fmt:
 	@rt fmt
 	@cd reference && cargo fmt
 	@cd bench && cargo fmt
+	@cd tests/calls && cargo fmt

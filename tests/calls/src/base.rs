@@ -1,0 +1,114 @@
+//! Accepted calls of each kind, to be made as they are or damaged first.
+
+use crate::case::{Call, Case};
+use crate::equations::Equations;
+use crate::layout::{RawTable, State};
+use crate::random::Random;
+use crate::tables::{form, Size};
+use reference::forms::bytes_of;
+use reference::{Table, ENTRIES};
+
+/// The length of the longest form of a table.
+pub const LONGEST: usize = 4 + 4 * ENTRIES;
+
+/// A call on tables of some size, with an output that is long enough.
+pub fn base(call: Call, negative: bool, size: Size, random: &mut Random) -> Case {
+    let (l, n) = random.shape(size);
+    let table = random.table(l, n);
+    base_on(call, negative, size, &table, random)
+}
+
+/// A call that can be damaged in each way: it has an entry, an equation, and room for a bit
+/// above l.
+pub fn base_to_damage(call: Call, negative: bool, random: &mut Random) -> Case {
+    let l = random.within(1, 6) as u32;
+    let n = random.within(1, 6);
+    let table = random.table(l, n);
+    let mut case = base_on(call, negative, Size::Light, &table, random);
+    match call {
+        Call::Join | Call::Equal | Call::Smaller => {
+            let n = random.within(1, 6);
+            case.second = form(&random.table(l, n));
+        }
+        Call::Equation | Call::Step => {
+            let size = random.within(1, 8);
+            case.second = bytes_of(random.term_of(l, size));
+        }
+        Call::Run => {
+            let mut equations = Equations::default();
+            for _ in 0..random.within(1, 4) {
+                let left = random.variable(l);
+                let size = random.within(1, 5);
+                equations.push(left, &random.term_of(l, size));
+            }
+            case.second = equations.bytes();
+        }
+        _ => {}
+    }
+    case
+}
+
+/// A call on the given table.
+pub fn base_on(call: Call, negative: bool, size: Size, table: &Table, random: &mut Random) -> Case {
+    let l = table.l;
+    let mut case = Case::new(call);
+    case.side = random.side(negative);
+    case.first = form(table);
+    case.out = output(call, random);
+    match call {
+        Call::Convert => give_groups(&mut case, l, table.entries.len(), random),
+        Call::Equation | Call::Step => {
+            case.word = u32::from(random.variable(l));
+            case.second = bytes_of(random.term(l));
+        }
+        Call::Join | Call::Equal | Call::Smaller => {
+            let n = random.shape(size).1;
+            case.second = form(&random.table(l, n));
+        }
+        Call::Project => case.word = random.set(l).max(1),
+        Call::Ground => case.word = u32::from(random.variable(l)),
+        Call::Independent => (case.word, case.other) = (random.set(l), random.set(l)),
+        Call::Run => case.second = random.equations(l).bytes(),
+        _ => {}
+    }
+    if matches!(call, Call::Step | Call::Write) {
+        case.first.clear();
+        case.state = Some(Box::new(any_state(case.side, table, random)));
+    }
+    case
+}
+
+/// What the output holds before the call, longer than any form; or the word for the answer.
+fn output(call: Call, random: &mut Random) -> Vec<u8> {
+    match call {
+        _ if call.writes_form() => {
+            let more = random.below(12);
+            random.bytes(LONGEST + more)
+        }
+        _ if call.asks() => random.bytes(4),
+        _ => Vec::new(),
+    }
+}
+
+/// Words for a conversion, some of them zero or given twice.
+fn give_groups(case: &mut Case, l: u32, count: usize, random: &mut Random) {
+    let mut groups: Vec<u32> = (0..count).map(|_| random.set(l)).collect();
+    for k in 1..count {
+        if random.percent(5) {
+            groups[k] = groups[k - 1];
+        }
+    }
+    case.word = l;
+    case.first = groups.into_iter().flat_map(u32::to_le_bytes).collect();
+}
+
+/// A state around a table as it stands, with any last answer and count.
+pub fn any_state(side: u32, table: &Table, random: &mut Random) -> State {
+    let any = random.word();
+    State {
+        code: random.pick(&[0, 0, 5, 8, any]),
+        side,
+        applied: random.pick(&[0, 1, any, u32::MAX - 1, u32::MAX]),
+        table: RawTable::of(table),
+    }
+}

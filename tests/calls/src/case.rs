@@ -1,0 +1,163 @@
+//! One call with all that it is given, and what comes of it.
+
+use crate::layout::State;
+
+/// The exported calls.
+#[derive(Clone, Copy, Debug, PartialEq, Eq, PartialOrd, Ord)]
+pub enum Call {
+    Read,
+    Convert,
+    ChangeSide,
+    Equation,
+    Join,
+    Project,
+    Equal,
+    Ground,
+    Independent,
+    Smaller,
+    Run,
+    Start,
+    Step,
+    Write,
+}
+
+impl Call {
+    /// All calls, in the order of the C header.
+    pub const ALL: [Call; 14] = [
+        Call::Read,
+        Call::Convert,
+        Call::ChangeSide,
+        Call::Equation,
+        Call::Join,
+        Call::Project,
+        Call::Equal,
+        Call::Ground,
+        Call::Independent,
+        Call::Smaller,
+        Call::Run,
+        Call::Start,
+        Call::Step,
+        Call::Write,
+    ];
+
+    /// The C name.
+    pub fn name(self) -> &'static str {
+        match self {
+            Call::Read => "sharing_read",
+            Call::Convert => "sharing_convert",
+            Call::ChangeSide => "sharing_change_side",
+            Call::Equation => "sharing_equation",
+            Call::Join => "sharing_join",
+            Call::Project => "sharing_project",
+            Call::Equal => "sharing_equal",
+            Call::Ground => "sharing_ground",
+            Call::Independent => "sharing_independent",
+            Call::Smaller => "sharing_smaller",
+            Call::Run => "sharing_run",
+            Call::Start => "sharing_start",
+            Call::Step => "sharing_step",
+            Call::Write => "sharing_write",
+        }
+    }
+
+    /// Whether the call writes the form of a table into a lent output.
+    pub fn writes_form(self) -> bool {
+        use Call::*;
+        matches!(
+            self,
+            Read | Convert | ChangeSide | Equation | Join | Project | Write
+        )
+    }
+
+    /// Whether the call answers yes or no.
+    pub fn asks(self) -> bool {
+        matches!(self, Call::Equal | Call::Ground | Call::Independent)
+    }
+
+    /// Whether what the call does goes by a side.
+    pub fn has_side(self) -> bool {
+        use Call::*;
+        matches!(
+            self,
+            ChangeSide | Equation | Join | Project | Ground | Independent | Run | Start | Step
+        )
+    }
+}
+
+/// A call and all that it is given; what the call does not take stays empty.
+#[derive(Clone)]
+pub struct Case {
+    pub call: Call,
+    /// The side; of a step the state has it.
+    pub side: u32,
+    /// The l of a conversion, the variable, the kept set or the first set.
+    pub word: u32,
+    /// The second set.
+    pub other: u32,
+    /// The table, or the words of a conversion.
+    pub first: Vec<u8>,
+    /// The second table, the term or the equations.
+    pub second: Vec<u8>,
+    /// What the output or the word for the answer holds before the call.
+    pub out: Vec<u8>,
+    /// The state of a running analysis.
+    pub state: Option<Box<State>>,
+}
+
+impl Case {
+    /// A call that is given nothing yet.
+    pub fn new(call: Call) -> Case {
+        Case {
+            call,
+            side: 0,
+            word: 0,
+            other: 0,
+            first: Vec::new(),
+            second: Vec::new(),
+            out: Vec::new(),
+            state: None,
+        }
+    }
+
+    /// Whether the side is the negative one.
+    pub fn is_negative(&self) -> bool {
+        let side = self.state.as_ref().map_or(self.side, |state| state.side);
+        self.call.has_side() && side != 0
+    }
+
+    /// The l of the table that the call is given, as long as that is undamaged.
+    pub fn l(&self) -> u32 {
+        match &self.state {
+            Some(state) => state.table.l,
+            None if self.call == Call::Convert => self.word,
+            None => u32::from(u16::from_le_bytes([self.first[0], self.first[1]])),
+        }
+    }
+}
+
+/// The part that the two-buffer call hands back.
+#[derive(Clone, Copy, Debug, PartialEq, Eq)]
+pub enum Part {
+    /// The call hands back no part.
+    None,
+    /// An empty part: its place is not promised.
+    Empty,
+    /// So many bytes from a place of the first buffer on.
+    First(usize, usize),
+    /// The same of the second buffer.
+    Second(usize, usize),
+    /// A part that lies in neither buffer.
+    Elsewhere(usize),
+}
+
+/// What comes of a call.
+#[derive(Clone, PartialEq, Eq)]
+pub struct Outcome {
+    /// The number returned, or the code of a state returned.
+    pub number: u32,
+    /// The whole output or the word for the answer after the call.
+    pub out: Vec<u8>,
+    pub part: Part,
+    /// The state returned, or the lent one after the call.
+    pub state: Option<Box<State>>,
+}

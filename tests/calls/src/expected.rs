@@ -1,0 +1,111 @@
+//! The outcome of each call by the plain implementation.
+
+use crate::case::{Call, Case, Outcome, Part};
+use crate::layout::State;
+use reference::calls;
+
+/// What the call should give.
+pub fn expected(case: &Case) -> Outcome {
+    match case.call {
+        Call::Smaller => smaller(case),
+        Call::Run => of_state(State::of(&calls::run(case.side, &case.first, &case.second))),
+        Call::Start => of_state(State::of(&calls::start(case.side, &case.first))),
+        Call::Step => step(case),
+        call if call.asks() => question(case),
+        _ => writer(case),
+    }
+}
+
+/// A call that writes a form.
+fn writer(case: &Case) -> Outcome {
+    let Case {
+        side, word, first, ..
+    } = case;
+    let mut out = case.out.clone();
+    let number = match case.call {
+        Call::Read => calls::read(first, &mut out),
+        Call::Convert => calls::convert(*word, &words(first), &mut out),
+        Call::ChangeSide => calls::change_side(*side, first, &mut out),
+        Call::Equation => calls::equation(*side, first, *word, &case.second, &mut out),
+        Call::Join => calls::join(*side, first, &case.second, &mut out),
+        Call::Project => calls::project(*side, first, *word, &mut out),
+        _ => match state_of(case).running() {
+            Ok(running) => calls::write(&running, &mut out),
+            Err(refusal) => refusal.number(),
+        },
+    };
+    Outcome {
+        number,
+        out,
+        part: Part::None,
+        state: case.state.clone(),
+    }
+}
+
+/// A question: the word for the answer is the output.
+fn question(case: &Case) -> Outcome {
+    let mut answer = words(&case.out)[0];
+    let number = match case.call {
+        Call::Equal => calls::equal(&case.first, &case.second, &mut answer),
+        Call::Ground => calls::ground(case.side, &case.first, case.word, &mut answer),
+        _ => calls::independent(case.side, &case.first, case.word, case.other, &mut answer),
+    };
+    Outcome {
+        number,
+        out: answer.to_le_bytes().to_vec(),
+        part: Part::None,
+        state: None,
+    }
+}
+
+/// The two-buffer call; the plain one returns a part of one of the same two buffers.
+fn smaller(case: &Case) -> Outcome {
+    let part = calls::smaller(&case.first, &case.second);
+    let part = match part.len() {
+        0 => Part::Empty,
+        len if part.as_ptr() == case.first.as_ptr() => Part::First(0, len),
+        len => Part::Second(0, len),
+    };
+    Outcome {
+        number: 0,
+        out: Vec::new(),
+        part,
+        state: None,
+    }
+}
+
+/// One step of a running analysis: a table that was damaged from outside is refused, and only
+/// the last answer changes.
+fn step(case: &Case) -> Outcome {
+    let mut state = *state_of(case);
+    match state.running() {
+        Ok(mut running) => {
+            calls::step(&mut running, case.word, &case.second);
+            state = State::of(&running);
+        }
+        Err(refusal) => state.code = refusal.number(),
+    }
+    of_state(state)
+}
+
+fn of_state(state: State) -> Outcome {
+    Outcome {
+        number: state.code,
+        out: Vec::new(),
+        part: Part::None,
+        state: Some(Box::new(state)),
+    }
+}
+
+/// The state that a call on one is given.
+pub fn state_of(case: &Case) -> &State {
+    case.state.as_ref().expect("the call is given a state")
+}
+
+/// The 32-bit words of a row of bytes.
+pub fn words(bytes: &[u8]) -> Vec<u32> {
+    bytes
+        .chunks_exact(4)
+        .map(|four| u32::from_le_bytes([four[0], four[1], four[2], four[3]]))
+        .collect()
+}

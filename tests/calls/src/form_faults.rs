@@ -1,0 +1,68 @@
+//! Faults in the form of a table.
+
+use crate::faults::Fault;
+use crate::random::Random;
+use reference::forms::{bytes_of, words_of};
+use reference::ENTRIES;
+
+/// Puts a fault into a form that has its sizes and the length that they give, or is longer.
+pub fn put(fault: Fault, bytes: &mut Vec<u8>, random: &mut Random) {
+    match fault {
+        Fault::Count(_) => *bytes = overfull(bytes, random),
+        Fault::StrayBit(_) | Fault::StrayValue(_) => {
+            let mut words = words_of(bytes);
+            make_stray(matches!(fault, Fault::StrayBit(_)), &mut words, random);
+            *bytes = bytes_of(words);
+        }
+        Fault::Width(_) => {
+            let l = u16::from(bytes[0]);
+            let width = random.pick(&[0, 0, 17, 17, 32, 0x100 | l, 0x8000 | l, u16::MAX]);
+            bytes[..2].copy_from_slice(&width.to_le_bytes());
+        }
+        Fault::Short(_) => {
+            let any = random.within(4, bytes.len() - 1);
+            let least = bytes.len() - 1;
+            bytes.truncate(random.pick(&[least, least - 1, any]).max(4));
+        }
+        Fault::Long(_) => {
+            let any = random.within(1, 40);
+            let more = random.pick(&[1, 2, 4, any]);
+            bytes.extend(random.bytes(more));
+        }
+        _ => bytes.truncate(random.below(4)),
+    }
+}
+
+/// A form of more than 256 entries that has the length its sizes give: the entries of the given
+/// form again and again.
+fn overfull(bytes: &[u8], random: &mut Random) -> Vec<u8> {
+    let words = words_of(bytes);
+    let (care, value) = words[2..].split_at(usize::from(words[1]));
+    let any = ENTRIES + random.within(2, 40);
+    let n = match random.below(400) {
+        0 => usize::from(u16::MAX),
+        1..=99 => any,
+        // A low byte that is a valid count by itself.
+        100..=119 => 2 * ENTRIES + care.len(),
+        _ => ENTRIES + 1,
+    };
+    let row = |words: &[u16]| -> Vec<u16> { words.iter().copied().cycle().take(n).collect() };
+    bytes_of([vec![words[0], n as u16], row(care), row(value)].concat())
+}
+
+/// A bit above l in one entry, or a value without care.
+fn make_stray(above: bool, words: &mut [u16], random: &mut Random) {
+    let (l, n) = (usize::from(words[0]), usize::from(words[1]));
+    let any = random.below(n);
+    let k = random.pick(&[0, n - 1, any]);
+    let (care, value) = (2 + k, 2 + n + k);
+    if above {
+        let bit = 1 << random.within(l, 15);
+        words[care] |= bit;
+        words[value] |= random.pick(&[0, bit]);
+    } else {
+        let bit = 1 << random.below(l);
+        words[care] &= !bit;
+        words[value] |= bit;
+    }
+}

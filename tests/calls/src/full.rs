@@ -1,0 +1,216 @@
+//! Calls that need entry 257.
+
+use crate::base::{any_state, base_on, LONGEST};
+use crate::case::{Call, Case};
+use crate::equations::Equations;
+use crate::expected::expected;
+use crate::random::Random;
+use crate::tables::{form, Size};
+use reference::entry::low_bits;
+use reference::forms::{bytes_of, words_of};
+use reference::{Entry, Table, ENTRIES};
+use std::collections::BTreeMap;
+
+/// How many full calls of each kind are found at the start, to be used again and again.
+const FOUND: usize = 12;
+
+/// Full calls of each kind. Their tables leave room for a bit above l and for an entry more.
+pub struct Full(BTreeMap<(Call, bool), Vec<Case>>);
+
+impl Full {
+    /// Looks for full calls of each kind.
+    pub fn find(random: &mut Random) -> Full {
+        let mut found = BTreeMap::new();
+        for call in [Call::Convert, Call::ChangeSide, Call::Join, Call::Equation] {
+            for negative in [false, true] {
+                found.insert((call, negative), find(call, negative, random));
+            }
+        }
+        for negative in [false, true] {
+            let equations = found[&(Call::Equation, negative)].clone();
+            let steps = equations.iter().map(|case| step_of(case, random));
+            found.insert((Call::Step, negative), steps.collect());
+            let runs = equations.iter().map(|case| run_of(case, random));
+            found.insert((Call::Run, negative), runs.collect());
+        }
+        found.insert((Call::Project, true), find(Call::Project, true, random));
+        Full(found)
+    }
+
+    /// One of the full calls of a kind.
+    pub fn case(&self, call: Call, negative: bool, random: &mut Random) -> Case {
+        let cases = &self.0[&(call, negative)];
+        cases[random.below(cases.len())].clone()
+    }
+
+    /// All full calls.
+    pub fn cases(&self) -> impl Iterator<Item = &Case> {
+        self.0.values().flatten()
+    }
+}
+
+/// Draws calls until enough are full.
+fn find(call: Call, negative: bool, random: &mut Random) -> Vec<Case> {
+    let mut found = Vec::new();
+    while found.len() < FOUND {
+        let case = candidate(call, negative, random);
+        if expected(&case).number == 8 {
+            found.push(case);
+        }
+    }
+    found
+}
+
+/// A call that is likely to be full.
+fn candidate(call: Call, negative: bool, random: &mut Random) -> Case {
+    let l = random.within(10, 15) as u32;
+    match (call, negative) {
+        (Call::Convert, _) => convert(l, ENTRIES + 1 + random.below(40), random),
+        (Call::Join, false) => {
+            let k = random.within(128, 250);
+            join(&alternate(l, k, random), &alternate(l, k, random), random)
+        }
+        (Call::Join, true) => {
+            let (first, second) = (random.within(15, 31), random.within(15, 31));
+            negative_join(l, first, second, random)
+        }
+        (Call::Equation, false) => {
+            let (n, stars) = (random.within(30, 120), random.pick(&[0, 10, 30]));
+            on_strings(call, negative, l, n, stars, random)
+        }
+        _ => {
+            let n = random.within(8, 40);
+            on_strings(call, negative, l, n, 75, random)
+        }
+    }
+}
+
+/// A call on a table of strings with the given chance of `*`.
+fn on_strings(
+    call: Call,
+    negative: bool,
+    l: u32,
+    n: usize,
+    stars: usize,
+    random: &mut Random,
+) -> Case {
+    let entries = (0..n).map(|_| random.string(l, stars)).collect();
+    let table = Table { l, entries };
+    let mut case = base_on(call, negative, Size::Light, &table, random);
+    if call == Call::Equation {
+        let size = random.within(3, 12);
+        case.second = bytes_of(random.term_of(l, size));
+    }
+    case
+}
+
+/// So many different groups of which each two differ at two positions or more, so that none
+/// widens another; l is at least 9.
+pub fn alternate(l: u32, count: usize, random: &mut Random) -> Vec<u32> {
+    let odd = |group: &u32| group.count_ones() % 2 == 1;
+    let mut groups: Vec<u32> = (1..=low_bits(l)).filter(odd).collect();
+    random.shuffle(&mut groups);
+    groups.truncate(count);
+    groups
+}
+
+/// A conversion that gives so many entries, with some words given again or zero.
+pub fn convert(l: u32, count: usize, random: &mut Random) -> Case {
+    let mut groups = alternate(l, count, random);
+    for _ in 0..random.below(20) {
+        let place = random.below(groups.len());
+        let word = random.pick(&groups[..=place]);
+        groups.insert(place + 1, random.pick(&[0, word]));
+    }
+    let mut case = Case::new(Call::Convert);
+    case.word = l;
+    case.first = groups.into_iter().flat_map(u32::to_le_bytes).collect();
+    case.out = random.bytes(LONGEST);
+    case
+}
+
+/// A positive join of groups.
+pub fn join(first: &[u32], second: &[u32], random: &mut Random) -> Case {
+    let l = 10;
+    let fixed = |groups: &[u32]| Table {
+        l,
+        entries: groups
+            .iter()
+            .map(|&group| Entry::of_group(l, group & low_bits(l)))
+            .collect(),
+    };
+    let mut case = Case::new(Call::Join);
+    case.first = form(&fixed(first));
+    case.second = form(&fixed(second));
+    case.out = random.bytes(LONGEST);
+    case
+}
+
+/// A negative join of tables of up to 31 entries each, which makes the product of the counts:
+/// the first is fixed at the low 5 positions, the second at all others.
+pub fn negative_join(l: u32, first: usize, second: usize, random: &mut Random) -> Case {
+    let row = |count: usize, care: u32, shift: u32, random: &mut Random| {
+        let mut values: Vec<u32> = (1..32).collect();
+        random.shuffle(&mut values);
+        values.truncate(count);
+        let entry = |value| Entry {
+            care,
+            value: value << shift,
+        };
+        let entries = values.into_iter().map(entry).collect();
+        form(&Table { l, entries })
+    };
+    let mut case = Case::new(Call::Join);
+    case.side = random.side(true);
+    case.first = row(first, 31, 0, random);
+    case.second = row(second, low_bits(l) & !31, 5, random);
+    case.out = random.bytes(LONGEST);
+    case
+}
+
+/// The table of an undamaged form, as it stands.
+pub fn table_of(form: &[u8]) -> Table {
+    let words = words_of(form);
+    let (care, value) = words[2..].split_at(usize::from(words[1]));
+    let entries = care.iter().zip(value).map(|(&care, &value)| Entry {
+        care: u32::from(care),
+        value: u32::from(value),
+    });
+    Table {
+        l: u32::from(words[0]),
+        entries: entries.collect(),
+    }
+}
+
+/// The step of the same equation from the same table, which is not grown first.
+pub fn step_of(equation: &Case, random: &mut Random) -> Case {
+    let mut case = Case::new(Call::Step);
+    let table = table_of(&equation.first);
+    case.state = Some(Box::new(any_state(equation.side, &table, random)));
+    (case.word, case.second) = (equation.word, equation.second.clone());
+    case
+}
+
+/// A run that comes to the given full equation, or to another one before it.
+pub fn run_of(equation: &Case, random: &mut Random) -> Case {
+    let l = table_of(&equation.first).l;
+    let mut case = Case::new(Call::Run);
+    (case.side, case.first) = (equation.side, equation.first.clone());
+    for earlier in [2, 1, 0] {
+        let mut equations = Equations::default();
+        let some = |count: usize, equations: &mut Equations, random: &mut Random| {
+            for _ in 0..count {
+                let (left, term) = (random.variable(l), random.term_of(l, 2));
+                equations.push(left, &term);
+            }
+        };
+        some(earlier, &mut equations, random);
+        equations.push(equation.word as u16, &words_of(&equation.second));
+        some(random.below(3), &mut equations, random);
+        case.second = equations.bytes();
+        if expected(&case).number == 8 {
+            break;
+        }
+    }
+    case
+}

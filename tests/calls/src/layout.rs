@@ -1,0 +1,81 @@
+//! The structs of the C interface, and the running state of the plain side in that layout.
+
+use reference::{Entry, Refusal, Running, Table, ENTRIES};
+
+/// `sharing_table`: entry k is `care[k]` and `value[k]`.
+#[repr(C)]
+#[derive(Clone, Copy, PartialEq, Eq)]
+pub struct RawTable {
+    pub l: u32,
+    pub n: usize,
+    pub care: [u32; ENTRIES],
+    pub value: [u32; ENTRIES],
+}
+
+/// `sharing_running`.
+#[repr(C)]
+#[derive(Clone, Copy, PartialEq, Eq)]
+pub struct State {
+    pub code: u32,
+    pub side: u32,
+    pub applied: u32,
+    pub table: RawTable,
+}
+
+/// `sharing_part`.
+#[repr(C)]
+#[derive(Clone, Copy)]
+pub struct RawPart {
+    pub ptr: *const u8,
+    pub len: usize,
+}
+
+impl RawTable {
+    /// The arrays of a table of at most 256 entries, zero past the count.
+    pub fn of(table: &Table) -> RawTable {
+        let mut raw = RawTable {
+            l: table.l,
+            n: table.entries.len(),
+            care: [0; ENTRIES],
+            value: [0; ENTRIES],
+        };
+        for (k, &Entry { care, value }) in table.entries.iter().enumerate() {
+            raw.care[k] = care;
+            raw.value[k] = value;
+        }
+        raw
+    }
+}
+
+impl State {
+    /// The state of the plain side in the layout of the C interface.
+    pub fn of(running: &Running) -> State {
+        State {
+            code: running.code,
+            side: running.side,
+            applied: running.applied,
+            table: RawTable::of(&running.table),
+        }
+    }
+
+    /// The state as the plain side has it, or what its table value meets: 2, 3, 4.
+    pub fn running(&self) -> Result<Running, Refusal> {
+        let RawTable { l, n, care, value } = &self.table;
+        Ok(Running {
+            code: self.code,
+            side: self.side,
+            applied: self.applied,
+            table: Table::from_arrays(*l, *n, care, value)?,
+        })
+    }
+
+    /// The bytes of all fields, without padding.
+    pub fn bytes(&self) -> Vec<u8> {
+        let words = [self.code, self.side, self.applied, self.table.l];
+        let mut bytes: Vec<u8> = words.into_iter().flat_map(u32::to_le_bytes).collect();
+        bytes.extend((self.table.n as u64).to_le_bytes());
+        let rows = self.table.care.into_iter().chain(self.table.value);
+        bytes.extend(rows.flat_map(u32::to_le_bytes));
+        bytes
+    }
+}

@@ -1,0 +1,200 @@
+//! What was answered how often, and what each call can answer.
+
+use crate::case::{Call, Case, Outcome, Part};
+use crate::faults::Fault;
+use std::collections::BTreeMap;
+
+/// The numbers are 0 to 11.
+const NUMBERS: usize = 12;
+
+/// A call, and whether its side is the negative one.
+type Row = (Call, bool);
+
+/// The counts of one row.
+#[derive(Default)]
+struct Counts {
+    numbers: [usize; NUMBERS],
+    /// Questions: yes and no. The two-buffer call: part of the first, of the second, empty.
+    answers: [usize; 3],
+}
+
+/// All counts of a run of this program.
+#[derive(Default)]
+pub struct Ledger {
+    rows: BTreeMap<Row, Counts>,
+    /// How often two faults stood together in a row, and which of their numbers was answered.
+    pairs: BTreeMap<(Row, Fault, Fault), usize>,
+    numbers: BTreeMap<(u32, u32), [usize; 2]>,
+    total: usize,
+}
+
+/// The numbers that a call can answer: all others are wrong whatever it is given.
+fn possible(call: Call, negative: bool) -> &'static [u32] {
+    match call {
+        Call::Read => &[0, 1, 2, 3, 4, 9],
+        Call::Convert => &[0, 2, 4, 8, 9],
+        Call::ChangeSide => &[0, 1, 2, 3, 4, 8, 9],
+        Call::Equation => &[0, 1, 2, 3, 4, 5, 6, 7, 8, 9],
+        Call::Join => &[0, 1, 2, 3, 4, 8, 9, 10],
+        // At most 256 strings are cut on the positive side, so none of them is entry 257.
+        Call::Project if negative => &[0, 1, 2, 3, 4, 8, 9, 11],
+        Call::Project => &[0, 1, 2, 3, 4, 9, 11],
+        Call::Equal => &[0, 1, 2, 3, 4, 10],
+        Call::Ground | Call::Independent => &[0, 1, 2, 3, 4, 5],
+        Call::Smaller => &[0],
+        Call::Run | Call::Step => &[0, 1, 2, 3, 4, 5, 6, 7, 8],
+        Call::Start => &[0, 1, 2, 3, 4],
+        Call::Write => &[0, 2, 3, 4, 9],
+    }
+}
+
+/// All rows, in the order of the C header.
+pub fn rows() -> impl Iterator<Item = Row> {
+    Call::ALL.into_iter().flat_map(|call| {
+        let sides: &[bool] = if call.has_side() {
+            &[false, true]
+        } else {
+            &[false]
+        };
+        sides.iter().map(move |&negative| (call, negative))
+    })
+}
+
+/// The name of a row, as in `equation -`.
+fn title((call, negative): Row) -> String {
+    let name = call.name().trim_start_matches("sharing_");
+    match (call.has_side(), negative) {
+        (false, _) => name.to_string(),
+        (true, false) => format!("{name} +"),
+        (true, true) => format!("{name} -"),
+    }
+}
+
+impl Ledger {
+    /// Counts a call that was compared.
+    pub fn enter(&mut self, case: &Case, outcome: &Outcome) {
+        self.total += 1;
+        let counts = self
+            .rows
+            .entry((case.call, case.is_negative()))
+            .or_default();
+        counts.numbers[outcome.number as usize] += 1;
+        match outcome.part {
+            Part::None if case.call.asks() && outcome.number == 0 => {
+                counts.answers[usize::from(outcome.out[0] == 0)] += 1;
+            }
+            Part::None | Part::Elsewhere(_) => {}
+            Part::First(..) => counts.answers[0] += 1,
+            Part::Second(..) => counts.answers[1] += 1,
+            Part::Empty => counts.answers[2] += 1,
+        }
+    }
+
+    /// Counts two faults that stood together, and the number that was answered; the two-buffer
+    /// call answers none.
+    pub fn enter_pair(&mut self, row: Row, faults: (Fault, Fault), answered: u32) {
+        *self.pairs.entry((row, faults.0, faults.1)).or_default() += 1;
+        if row.0 == Call::Smaller {
+            return;
+        }
+        let (a, b) = (faults.0.number(), faults.1.number());
+        let counts = self.numbers.entry((a.min(b), a.max(b))).or_default();
+        counts[usize::from(answered != a.min(b))] += 1;
+    }
+
+    /// The calls counted.
+    pub fn total(&self) -> usize {
+        self.total
+    }
+
+    /// Prints the counts: a row for each call and side, a column for each number.
+    pub fn print(&self) {
+        let heads: String = (0..NUMBERS).map(|number| format!("{number:>8}")).collect();
+        println!("{:<15}{heads}", "answers");
+        for row in rows() {
+            let counts = self.rows.get(&row);
+            let cells: String = (0..NUMBERS)
+                .map(|number| cell(row, number, counts))
+                .collect();
+            println!("{:<15}{cells}", title(row));
+        }
+        for (row, counts) in self.rows.iter().filter(|((call, _), _)| call.asks()) {
+            let [yes, no, _] = counts.answers;
+            println!("{:<15}{yes:>8} yes {no:>8} no", title(*row));
+        }
+        if let Some(counts) = self.rows.get(&(Call::Smaller, false)) {
+            let [first, second, empty] = counts.answers;
+            println!("smaller        {first:>8} positive {second:>8} negative {empty:>8} empty");
+        }
+        self.print_pairs();
+    }
+
+    /// Prints, for each pair of numbers whose faults stood together, how often each was answered.
+    fn print_pairs(&self) {
+        println!("two faults at once, as a/b: times a was answered, times b");
+        let cells: Vec<String> = self
+            .numbers
+            .iter()
+            .map(|((a, b), [first, second])| {
+                format!(
+                    "{:<8}{:<14}",
+                    format!("{a}/{b}:"),
+                    format!("{first} {second}")
+                )
+            })
+            .collect();
+        for line in cells.chunks(5) {
+            println!("  {}", line.concat().trim_end());
+        }
+        let least = self.pairs.values().min().unwrap_or(&0);
+        println!(
+            "  {} pairs of faults in the calls, each at least {least} times",
+            self.pairs.len()
+        );
+    }
+
+    /// What is missing or was impossible: an empty list where all is as it should be.
+    pub fn complaints(&self) -> Vec<String> {
+        let none = Counts::default();
+        let mut complaints = Vec::new();
+        for row in rows() {
+            let counts = self.rows.get(&row).unwrap_or(&none);
+            for (number, &count) in counts.numbers.iter().enumerate() {
+                match (is_possible(row, number), count) {
+                    (true, 0) => {
+                        complaints.push(format!("{}: {number} was never answered", title(row)));
+                    }
+                    (false, 1..) => {
+                        complaints.push(format!("{}: {number} cannot be answered", title(row)));
+                    }
+                    _ => {}
+                }
+            }
+            if counts.answers[..answers(row.0)].contains(&0) {
+                complaints.push(format!("{}: an answer was never given", title(row)));
+            }
+        }
+        complaints
+    }
+}
+
+/// How many kinds of answers a call has besides its number.
+fn answers(call: Call) -> usize {
+    match call {
+        Call::Smaller => 3,
+        _ if call.asks() => 2,
+        _ => 0,
+    }
+}
+
+fn is_possible((call, negative): Row, number: usize) -> bool {
+    possible(call, negative).contains(&(number as u32))
+}
+
+/// A count; a dot where the number cannot be answered and was not.
+fn cell(row: Row, number: usize, counts: Option<&Counts>) -> String {
+    match counts.map_or(0, |counts| counts.numbers[number]) {
+        0 if !is_possible(row, number) => format!("{:>8}", "."),
+        count => format!("{count:>8}"),
+    }
+}

@@ -1,0 +1,112 @@
+//! Calls on bytes of any value, and valid calls with a few bytes or bits changed.
+
+use crate::base::{base, base_to_damage};
+use crate::case::{Call, Case};
+use crate::ledger::rows;
+use crate::random::Random;
+use crate::tables::Size;
+use crate::tester::{Checked, Tester};
+
+/// How many calls of each kind, for each kind of noise.
+const TIMES: usize = 3000;
+
+/// All calls on noise.
+pub fn check(tester: &mut Tester) -> Checked<()> {
+    let mut random = Random::new(6);
+    for (call, negative) in rows() {
+        for _ in 0..TIMES {
+            let mut case = base(call, negative, Size::Light, &mut random);
+            make_noise(&mut case, &mut random);
+            tester.check(&case)?;
+            let mut case = base_to_damage(call, negative, &mut random);
+            for _ in 0..random.within(1, 3) {
+                change(&mut case, &mut random);
+            }
+            tester.check(&case)?;
+        }
+    }
+    Ok(())
+}
+
+/// Replaces all that the call is given by noise.
+fn make_noise(case: &mut Case, random: &mut Random) {
+    case.word = random.small_or_any();
+    case.other = random.small_or_any();
+    if case.call != Call::Convert {
+        case.first = random.noise();
+    }
+    case.second = random.noise();
+    if case.call.writes_form() {
+        let len = random.below(80);
+        case.out = random.bytes(len);
+    }
+    if let Some(state) = &mut case.state {
+        state.table.l = random.small_or_any();
+        state.table.n = random.below(12);
+        for k in 0..random.below(12) {
+            state.table.care[k] = random.small_or_any();
+            state.table.value[k] = state.table.care[k] & random.word();
+        }
+    }
+}
+
+impl Random {
+    /// A number that is often a valid one.
+    fn small_or_any(&mut self) -> u32 {
+        let any = self.word();
+        let small = self.below(18) as u32;
+        self.pick(&[small, small, small, any])
+    }
+
+    /// Bytes of any value, often with small sizes in front that may fit the length.
+    fn noise(&mut self) -> Vec<u8> {
+        let n = self.below(6);
+        let any = self.below(40);
+        let len = self.pick(&[4 + 4 * n, 2 * n, any]);
+        let mut bytes = self.bytes(len);
+        if len >= 4 && self.percent(80) {
+            bytes[..4].copy_from_slice(&[self.below(18) as u8, 0, n as u8, 0]);
+        }
+        if self.percent(50) {
+            // Small numbers in the high bytes, so that fewer words have a bit above l.
+            let high = self.pick(&[0, 0, 0x80]);
+            bytes
+                .iter_mut()
+                .skip(5)
+                .step_by(2)
+                .for_each(|byte| *byte &= high);
+        }
+        bytes
+    }
+}
+
+/// Changes one bit or byte of an input, its length, or one number.
+fn change(case: &mut Case, random: &mut Random) {
+    let row = match random.below(2) {
+        0 if case.call != Call::Convert => &mut case.first,
+        _ => &mut case.second,
+    };
+    let place = random.below(row.len().max(1));
+    match random.below(7) {
+        0 | 1 if !row.is_empty() => row[place] ^= 1 << random.below(8),
+        2 if !row.is_empty() => row[place] = random.word() as u8,
+        3 if !row.is_empty() => drop(row.remove(place)),
+        4 => row.insert(place, random.word() as u8),
+        5 => case.word ^= 1 << random.below(32),
+        _ => change_state(case, random),
+    }
+}
+
+/// Changes one bit of a state's table, or of the second set where there is no state.
+fn change_state(case: &mut Case, random: &mut Random) {
+    let (k, bit) = (random.below(8), random.below(32));
+    match &mut case.state {
+        None => case.other ^= 1 << bit,
+        Some(state) => match random.below(4) {
+            0 => state.table.l ^= 1 << bit,
+            1 => state.table.n ^= 1 << (2 * bit),
+            2 => state.table.care[k] ^= 1 << bit,
+            _ => state.table.value[k] ^= 1 << bit,
+        },
+    }
+}

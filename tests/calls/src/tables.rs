@@ -1,0 +1,103 @@
+//! Valid tables of all widths and counts.
+
+use crate::random::Random;
+use reference::entry::low_bits;
+use reference::forms::{table_length, write_table};
+use reference::{Entry, Table, ENTRIES};
+
+/// How large the drawn tables are; calls that take long get light ones.
+#[derive(Clone, Copy, PartialEq, Eq)]
+pub enum Size {
+    /// Up to 7 variables and 10 entries.
+    Light,
+    /// Up to 16 variables and 24 entries.
+    Wide,
+    /// Any width and count, often at the limits.
+    Any,
+}
+
+impl Random {
+    /// A width and a count.
+    pub fn shape(&mut self, size: Size) -> (u32, usize) {
+        let (l, n) = match size {
+            Size::Light => (self.within(1, 7), self.within(0, 10)),
+            Size::Wide => (self.within(1, 16), self.within(0, 24)),
+            Size::Any => {
+                let count = self.below(ENTRIES + 1);
+                let counts = [0, 1, 2, 17, ENTRIES - 1, ENTRIES, count, count];
+                (self.within(1, 16), self.pick(&counts))
+            }
+        };
+        (l as u32, n)
+    }
+
+    /// A table: dense or sparse, some with doubled, subsumed and all-zero entries.
+    pub fn table(&mut self, l: u32, n: usize) -> Table {
+        let stars = self.pick(&[0, 20, 50, 80, 95]);
+        let odd = self.pick(&[0, 0, 10, 60]);
+        let mut entries: Vec<Entry> = Vec::with_capacity(n);
+        while entries.len() < n {
+            let entry = if self.percent(odd) {
+                self.odd_entry(l, &entries)
+            } else {
+                self.string(l, stars)
+            };
+            entries.push(entry);
+        }
+        Table { l, entries }
+    }
+
+    /// A string: each position `*` with the given chance, else 0 or 1 evenly.
+    pub fn string(&mut self, l: u32, stars: usize) -> Entry {
+        let mut entry = Entry::ALL_STAR;
+        for i in 0..l {
+            if !self.percent(stars) {
+                entry.care |= 1 << i;
+            }
+        }
+        entry.value = self.word() & entry.care;
+        entry
+    }
+
+    /// An all-zero entry, or an earlier one again, with a `*` more or with one fewer.
+    fn odd_entry(&mut self, l: u32, earlier: &[Entry]) -> Entry {
+        if earlier.is_empty() || self.percent(25) {
+            return Entry::zeros_at(low_bits(l));
+        }
+        let entry = self.pick(earlier);
+        let bit = 1 << self.below(l as usize);
+        match self.below(3) {
+            0 => entry,
+            1 => entry.star(bit),
+            _ => Entry {
+                care: entry.care | bit,
+                ..entry
+            },
+        }
+    }
+
+    /// A number that names a side.
+    pub fn side(&mut self, negative: bool) -> u32 {
+        let any = self.word().max(1);
+        if negative {
+            self.pick(&[1, 1, 2, 0x10000, 0x8000_0000, u32::MAX, any])
+        } else {
+            0
+        }
+    }
+
+    /// A set of some of X1 to Xl, sometimes an empty one.
+    pub fn set(&mut self, l: u32) -> u32 {
+        let one = 1 << self.below(l as usize);
+        let some = self.word() & low_bits(l);
+        let few = some & self.word();
+        self.pick(&[0, one, one, some, few, low_bits(l)])
+    }
+}
+
+/// The form of a table as it stands.
+pub fn form(table: &Table) -> Vec<u8> {
+    let mut bytes = vec![0; table_length(table.entries.len())];
+    write_table(table, &mut bytes).expect("the table is valid and the output has its length");
+    bytes
+}
