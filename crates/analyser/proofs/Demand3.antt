@@ -1,69 +1,38 @@
 -- Demand 3 of the calls themselves: for every list of equation calls, on table values and on byte buffers, refused ones
--- included, from any good table of either side, whatever admitted unifier is applied at each accepted one, the table after
--- the
--- list describes the bindings after it; and the same of the running analysis and of a run, wherever it stops. Assumes
--- nothing.
+-- included, from any good table of either side, whatever admitted unifier is applied at each accepted one, the table after the
+-- list describes the bindings after it; and the same of the running analysis and of a run, wherever it stops. Assumes nothing.
 use mathlib.Core.Path.{_≡_, refl, sym, ap, subst, _∙_}
 use mathlib.Core.List.{List, [], _∷_}
-use mathlib.Core.Logic.{_⊎_, inl, inr}
-use mathlib.Core.Option.{none}
+use mathlib.Core.Logic.{inl, inr}
 use Prim.Native.Nat.{ℕ, suc, _+_, _-_, _≤_}
 use native.Mathlib.Omega.{arith}
-use lib.ListN.{length}
 use Rattle.model.specs.Tables.{Side}
 use Rattle.model.specs.Bindings.{Bindings, Describes}
-use Rattle.model.specs.Calls.{Event, accepted, refused, Reaches}
+use Rattle.model.specs.Calls.{Event, Reaches}
 use Rattle.tables.specs.declared.Table.{Table}
-use Rattle.tables.specs.declared.Refusal.{Refusal}
 use Rattle.tables.specs.declared.Answer.{Answer}
 use Rattle.tables.specs.declared.Answer.the-variants.{Accepted, Refused}
 use Rattle.tables.specs.declared.Answered.{Answered}
 use Rattle.tables.specs.Refusals.{answer-number}
-use Rattle.tables.specs.Values.{accepts, refuses, GoodTable}
-use Rattle.tables.proofs.Checking.{good-passes}
-use Rattle.sharing.specs.Calls.{side-told, after-check, equation-call}
+use Rattle.tables.specs.Values.{accepts, GoodTable}
+use Rattle.sharing.specs.Calls.{side-told, equation-call}
 use Rattle.sharing.specs.Outcomes.{groups-of}
-use Rattle.forms.specs.declared.Extent.the-variants.{Whole, Front}
-use Rattle.forms.specs.Tables.{first-size, second-size, read-table, table-form, write-answer, written}
+use Rattle.forms.specs.declared.Extent.the-variants.{Whole}
+use Rattle.forms.specs.Tables.{first-size, second-size, read-table}
 use Rattle.forms.specs.Equations.{Written, check-equations, equations-of}
 use Rattle.forms.proofs.Reading.{read-good}
-use Rattle.forms.proofs.Back.{written-front}
-use Rattle.byte_calls.specs.Calls.{check-bytes, tokens-of, term-call, after-read, equation-bytes, put-checked, put-answer}
-use Rattle.byte_calls.specs.Calls.{put-bytes}
+use Rattle.byte_calls.specs.Calls.{tokens-of, term-call, put-answer, put-bytes}
 use Rattle.running.specs.declared.Running.{Running}
 use Rattle.running.specs.States.{state, after-answer, advanced, go-on, run-from, run-state}
-use Rattle.analyser.specs.Demand3.{equation-given, event-of, Returns, kept, Calls, end, value, bytes, Step, steps}
-use Rattle.analyser.specs.Demand3.{step-events, run-events}
-use Rattle.analyser.specs.Demand3 as S
+use Rattle.analyser.specs.Demand3.{equation-given, event-of, Returns, written, kept, Calls, end, value, bytes}
+use Rattle.analyser.specs.Demand3.{Step, steps, step-events, run-events}
 use Rattle.analyser.proofs.Equations.{accepted-exact, refused-kept, stepped}
+use Rattle.analyser.proofs.ByBytes.{equation-by-bytes, TermTold, term-told}
+use Rattle.analyser.proofs.ReadsBack.{put-accepted, made-reads, term-made}
 
 -- ---- A call with its term as bytes
 
 module _ (side : Side) (t : Table) (x : ℕ) (term : List ℕ) (good : GoodTable t) where
-  abbrev on-tokens : Answered
-  on-tokens = equation-call side t x (tokens-of term)
-
-  -- its bytes pass, and it is the call on their tokens; or it is refused, with the table as given
-  told : (term-call side t x term ≡ on-tokens) ⊎ ((r : Refusal) × (term-call side t x term ≡ refuses r t))
-  unfolding term-call after-check
-  told = go (check-bytes term) refl
-    where
-      go : (a : Answer) → check-bytes term ≡ a
-          → (term-call side t x term ≡ on-tokens) ⊎ ((r : Refusal) × (term-call side t x term ≡ refuses r t))
-      go Accepted e = inl (rw (good-passes t good, e))
-      go (Refused r) e = inr (r, rw (good-passes t good, e))
-
-  -- where it is accepted it is the call on the tokens
-  pub term-accepted : term-call side t x term .answer ≡ Accepted → term-call side t x term ≡ on-tokens
-  term-accepted a = go told
-    where
-      go : (term-call side t x term ≡ on-tokens) ⊎ ((r : Refusal) × (term-call side t x term ≡ refuses r t))
-          → term-call side t x term ≡ on-tokens
-      go (inl e) = e
-      go (inr (r, e)) =
-          let clash : Refused r ≡ Accepted = ap (λ (y : Answered). y .answer) (sym e) ∙ a in
-          absurd (let z : _≡_ {A = ℕ} 0 1 = cc in omega arith)
-
   -- From bindings that t describes, an answer with its table goes on to bindings that this table describes.
   abbrev pub Goes : Answer → Table → Type 0
   Goes w u =
@@ -71,54 +40,31 @@ module _ (side : Side) (t : Table) (x : ℕ) (term : List ℕ) (good : GoodTable
       → Reaches θ (event-of w (equation-given (t .l) x (tokens-of term)) ∷ es) θ′
       → (φ : Bindings) × GoodTable u × Describes (groups-of side u) φ × Reaches φ es θ′
 
+  -- So does the answer to an equation with its term as bytes.
   pub term-stepped : Goes (term-call side t x term .answer) (term-call side t x term .table)
   unfolding event-of Reaches
-  term-stepped = go told
+  term-stepped = go (term-told side t x term good)
     where
-      go : (term-call side t x term ≡ on-tokens) ⊎ ((n : Refusal) × (term-call side t x term ≡ refuses n t))
-          → Goes (term-call side t x term .answer) (term-call side t x term .table)
+      go : TermTold side t x term → Goes (term-call side t x term .answer) (term-call side t x term .table)
       go (inl e) = subst (λ (a : Answered). Goes (a .answer) (a .table)) (sym e) (stepped side t x (tokens-of term) good)
       go (inr (n, e)) = subst (λ (a : Answered). Goes (a .answer) (a .table)) (sym e) (λ es θ θ′ d r. (θ, good, d, r))
 
 -- ---- A list of calls
 
--- a call on bytes that read as t is the call on t
-bytes-called : (side : Side) (b : List ℕ) (t : Table) (x : ℕ) (term : List ℕ) → read-table Whole b ≡ accepts t
-    → equation-bytes side b x term ≡ term-call side t x term
-unfolding equation-bytes after-read after-check
-bytes-called side b t x term e = rw e
-
--- an accepted call on bytes writes a form that reads as its table
 module _ (side : Side) (t : Table) (x : ℕ) (term out : List ℕ) (good : GoodTable t) where
+  -- the call on bytes that read as t
   abbrev a : Answered
   a = term-call side t x term
-
-  went : put-answer a out ≡ Accepted → a .answer ≡ Accepted
-  unfolding put-answer put-checked
-  went e = go (a .answer) refl e
-    where
-      go : (y : Answer) → a .answer ≡ y → put-checked y (write-answer (a .table) (length out)) ≡ Accepted → a .answer ≡
-          Accepted
-      go Accepted h q = h
-      go (Refused r) h q = absurd (let z : _≡_ {A = ℕ} 0 1 = cc in omega arith)
-
-  reads-back : put-answer a out ≡ Accepted → read-table Front (put-bytes a out) ≡ accepts (a .table)
-  unfolding put-bytes
-  reads-back e =
-      let same = term-accepted side t x term good (went e) in
-      let m = accepted-exact side t x (tokens-of term) good (ap (λ (y : Answered). y .answer) (sym same) ∙ went e) in
-      rw e
-      (subst (λ (y : Answered). read-table Front (written Accepted (table-form (y .table)) out) ≡ accepts (y .table))
-      (sym same)
-      (written-front (on-tokens side t x term good .table) out (m .is-good) (m .reduced)))
 
   bytes-stepped : (w : Answer) (u : Table) → put-answer a out ≡ w → Returns t (put-bytes a out) w u
       → Goes side t x term good w u
   unfolding event-of Reaches
-  bytes-stepped w u e (S.written h) es θ θ′ d r =
-      let same : a .table ≡ u = ap (λ (y : Answered). y .table) (sym (reads-back e) ∙ h) in
+  bytes-stepped w u e (written h) es θ θ′ d r =
+      let back = made-reads a (term-made side t x term good) out e in
+      let same : a .table ≡ u = ap (λ (y : Answered). y .table) (sym back ∙ h) in
+      let went = sym (put-accepted a out e) in
       let g = term-stepped side t x term good es θ θ′ d
-      (subst (λ (y : Answer). Reaches θ (event-of y (equation-given (t .l) x (tokens-of term)) ∷ es) θ′) (sym (went e)) r) in
+      (subst (λ (y : Answer). Reaches θ (event-of y (equation-given (t .l) x (tokens-of term)) ∷ es) θ′) went r) in
       (g .0, subst GoodTable same (g .1), subst (λ (y : Table). Describes (groups-of side y) (g .0)) same (g .2), g .3)
   bytes-stepped w u e kept es θ θ′ d r = (θ, good, d, r)
 
@@ -132,11 +78,11 @@ calls-described side (value t x ts {events} rest) good θ θ′ d r =
     let g = stepped side t x ts good events θ θ′ d r in
     calls-described side rest (g .1) (g .0) θ′ (g .2) (g .3)
 calls-described side (bytes b t x term out {t′} {events} reads returns rest) good θ θ′ d r =
-    let same = bytes-called side b t x term reads in
+    let same = equation-by-bytes side b reads x term in
     let g = bytes-stepped side t x term out good (put-answer (term-call side t x term) out) t′ refl
     (subst (λ (y : Answered). Returns t (put-bytes y out) (put-answer y out) t′) same returns) events θ θ′ d
-    (subst (λ (y : Answered). Reaches θ (event-of (put-answer y out) (equation-given (t .l) x (tokens-of term)) ∷ events)
-    θ′) same r) in
+    (subst (λ (y : Answered).
+    Reaches θ (event-of (put-answer y out) (equation-given (t .l) x (tokens-of term)) ∷ events) θ′) same r) in
     calls-described side rest (g .1) (g .0) θ′ (g .2) (g .3)
 
 -- ---- The running analysis
@@ -181,8 +127,8 @@ module _ (side : ℕ) where
       → GoodTable (r .table) × Describes (groups-of (side-told side) (r .table)) θ′
 
   -- where none is applied the table stays
-  none-follows : (t : Table) (k : ℕ) (ws : List Written) (r : Running) → r .applied ≡ k → (GoodTable t → r .table ≡ t) →
-      Follows t k ws r
+  none-follows : (t : Table) (k : ℕ) (ws : List Written) (r : Running) → r .applied ≡ k → (GoodTable t → r .table ≡ t)
+      → Follows t k ws r
   unfolding run-events Reaches
   none-follows t k ws r e same good θ θ′ d s =
       let none : r .applied - k ≡ 0 = omega (arith, e) in

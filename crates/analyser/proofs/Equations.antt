@@ -72,8 +72,8 @@ module _ (side : Side) (t : Table) (x : ℕ) (ts : List ℕ) (good : GoodTable t
   called u e =
       checked-first ∙ rw (e, read-whole (t .l) x ts u e)
 
-  -- and one whose equation does not read is refused, with the table as given
-  uncalled : (r : Refusal) → C.check-equation (t .l) x ts ≡ C.refuses r → call ≡ refuses r t
+  -- A call whose equation does not read is refused, with the table as given.
+  pub uncalled : (r : Refusal) → C.check-equation (t .l) x ts ≡ C.refuses r → call ≡ refuses r t
   unfolding after-term
   uncalled r e = checked-first ∙ rw e
 

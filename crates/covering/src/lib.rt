@@ -13,7 +13,7 @@ ghost use Rattle.model.specs.Growth.{Entries, covered as covered-list};
 ghost use Rattle.model.specs.Tables.{Side, positive, negative};
 ghost use Rattle.model.specs.Questions.{equal as equal-lists, ground, independent};
 ghost use Rattle.words.specs.Words.{word, set-word};
-ghost use Rattle.tables.specs.Lists.{Holds, OfString};
+ghost use Rattle.tables.specs.Lists.{Holds, OfString, HoldsKeys};
 ghost use Rattle.covering.specs.Covering.{Forces, Nearest, agreed as agreed-string, all-covered, within};
 ghost use Rattle.covering.specs.Covering.{greatest, first-string, apart};
 
@@ -177,6 +177,29 @@ pub fn covered(care: &[u32; 256], value: &[u32; 256], n: usize, l: u32, y: Entry
     true
 }
 
+// The same, with the keys of the list, which strings of at most 16 positions have: an entry that subsumes y is found by them.
+fn covered_keyed(
+    care: &[u32; 256],
+    value: &[u32; 256],
+    keys: &[u32; 256],
+    n: usize,
+    l: u32,
+    y: Entry,
+) -> bool
+    requires { ⌜ (n ≤ 256) × (l ≤ 32) ⌝ }
+    ensures { λ r. ⌜
+        OfString l (now (care .entry)) (now (value .entry)) n y (λ τ s.
+        (l ≤ 16 → HoldsKeys l (now (keys .entry)) n τ) → r ≡ all-covered l τ s)
+        ⌝ }
+{
+    if l <= 16 {
+        if tables::lists::key_subsumed(keys, n, words::key(y)) {
+            return true;
+        }
+    }
+    covered(care, value, n, l, y)
+}
+
 // Is every group that the first list covers covered by the second?
 fn included(
     acare: &[u32; 256],
@@ -193,13 +216,15 @@ fn included(
         → Holds l (now (bcare .entry)) (now (bvalue .entry)) bn β → r ≡ within l α β)
         ⌝ }
 {
+    let mut keys = [0u32; 256];
+    tables::lists::write_keys(bcare, bvalue, bn, &mut keys);
     let mut i = 0;
     while i < an {
         let y = Entry {
             care: acare[i],
             value: avalue[i],
         };
-        if !covered(bcare, bvalue, bn, l, y) {
+        if !covered_keyed(bcare, bvalue, &keys, bn, l, y) {
             return false;
         }
         i += 1;

@@ -47,22 +47,25 @@ f-of s t = head 1 (cons s (cons t nil))
 abbrev g-of : Term → Term
 g-of t = head 2 (cons t nil)
 
--- X1 = f(X2, X3), then X2 = g(X3)
+-- X1 = f(X2, X3), then X2 = g(X3).
 abbrev equations : List Equation
 equations = record { left = 1; right = f-of (var 2) (var 3) } ∷ record { left = 2; right = g-of (var 3) } ∷ []
 
--- each program variable bound to a run-time variable of its own, and the table that says so
-abbrev start : Bindings
+-- Each program variable is bound to a run-time variable of its own.
+abbrev pub start : Bindings
 start = var 1 ∷ var 2 ∷ var 3 ∷ []
 
-abbrev start-table : Entries
+-- The table that says so.
+abbrev pub start-table : Entries
 start-table = (t1 ∷ t0 ∷ t0 ∷ []) ∷ (t0 ∷ t1 ∷ t0 ∷ []) ∷ (t0 ∷ t0 ∷ t1 ∷ []) ∷ []
 
-start-good : Good 3 start-table
+-- It is good.
+pub start-good : Good 3 start-table
 unfolding Wide
 start-good = record { wide = (refl, (refl, (refl, tt))); few = omega arith }
 
-start-described : Describes (groups positive 3 start-table) start
+-- It describes these bindings.
+pub start-described : Describes (groups positive 3 start-table) start
 unfolding string-of occurs nonzero covered covers groups
 start-described v = go (ℕ-discrete v 1) (ℕ-discrete v 2) (ℕ-discrete v 3)
   where
@@ -76,19 +79,20 @@ start-described v = go (ℕ-discrete v 1) (ℕ-discrete v 2) (ℕ-discrete v 3)
     go (no a) (no b) (yes e) = rw e (inr ((refl, tt), tt))
     go (no a) (no b) (no c) = inl (rw (other 1 a, other 2 b, other 3 c))
 
--- the bindings after both equations
-abbrev end : Bindings
+-- The bindings after both equations.
+abbrev pub end : Bindings
 end = f-of (g-of (var 3)) (var 3) ∷ g-of (var 3) ∷ var 3 ∷ []
 
--- the table after both equations
-abbrev end-table : Entries
+-- The table after both equations.
+abbrev pub end-table : Entries
 end-table = (t1 ∷ t1 ∷ t1 ∷ []) ∷ []
 
 last-is : last-table (equation-call positive 3) start-table equations ≡ end-table
 unfolding procedures answer equation-call returned last-table
 last-is = refl
 
-reached : Reaches start (events (equation-call positive 3) start-table equations) end
+-- The model reaches these bindings, by an admitted unifier at each equation.
+pub reached : Reaches start (events (equation-call positive 3) start-table equations) end
 unfolding procedures answer equation-call returned event events bound as-bound apply apply-row apply-all Reaches
 reached = (
   gives 1 (f-of (var 2) (var 3)),
@@ -96,6 +100,7 @@ reached = (
   (gives 2 (g-of (var 3)), gives-admitted 2 (g-of (var 3)) refl refl, refl),
 )
 
+-- The last table describes them.
 pub end-described : Describes (groups positive 3 end-table) end
 end-described =
     subst (λ (τ : Entries). Describes (groups positive 3 τ) end) last-is

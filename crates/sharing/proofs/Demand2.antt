@@ -131,8 +131,8 @@ kept-some [] h = absurd h
 kept-some (true ∷ k) h = omega arith
 kept-some (false ∷ k) h = kept-some k h
 
--- a good set keeps 1 to 16 positions of a good width
-kept-width : (l keep : ℕ) → good-width l ≡ true → good-keep l keep ≡ true → good-width (kept (set l keep)) ≡ true
+-- A good set keeps 1 to 16 positions of a good width.
+pub kept-width : (l keep : ℕ) → good-width l ≡ true → good-keep l keep ≡ true → good-width (kept (set l keep)) ≡ true
 unfolding good-width good-keep
 kept-width l keep w h =
     let k = set l keep in

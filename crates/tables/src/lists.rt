@@ -194,7 +194,7 @@ pub fn widen(care: &[u32; 256], value: &[u32; 256], n: usize, l: u32, y: Entry) 
 }
 
 // Writes the keys of a list of strings of at most 16 positions.
-fn write_keys(care: &[u32; 256], value: &[u32; 256], n: usize, keys: &mut [u32; 256])
+pub fn write_keys(care: &[u32; 256], value: &[u32; 256], n: usize, keys: &mut [u32; 256])
     requires { ⌜ n ≤ 256 ⌝ }
     ensures { λ _. ⌜
         ((l : ℕ) (τ : Entries) → l ≤ 16 → Holds l (now (care .entry)) (now (value .entry)) n τ
@@ -245,7 +245,7 @@ fn some_within(keys: &[u32; 256], j: usize, end: usize, y: u32) -> bool
 }
 
 // Is a key among the first n within y? By blocks of 8, up to the first that has one; the last block may overlap the one before.
-fn key_subsumed(keys: &[u32; 256], n: usize, y: u32) -> bool
+pub fn key_subsumed(keys: &[u32; 256], n: usize, y: u32) -> bool
     requires { ⌜ n ≤ 256 ⌝ }
     ensures { λ r. ⌜ r ≡ some-from 0 n (λ i. within (getD (now (keys .entry)) i 0) y) ⌝ }
 {

@@ -49,9 +49,17 @@ put-words-requires c κs =
     let at-if1 = at-put-number .before .before .before .before in
     let at-enum-told = at-if1 .before in
     let at-check = at-enum-told .before .before in
-    let few = good-few (at-check .check .ensures .1 .0 (at-enum-told .enum-told .given .1)) in
-        (few, omega (arith, few, at-if1 .if1 .left, at-put-number .put-number .kept .0, at-put-number2 .put-number2 .kept
-        .0))
+    let few = good-few (at-check .check .ensures .1 .0 (at-enum-told .enum-told .given .1)) in (
+      few,
+      omega (
+        arith,
+        few,
+        at-if1 .if1 .left,
+        at-put-number .put-number .kept .0,
+        at-put-number2 .put-number2 .kept
+            .0,
+      ),
+    )
 
 mul-put-words : tie.Need-mul-put-words
 mul-put-words c = search needs
@@ -67,9 +75,17 @@ put-words-requires-2 c κs =
     let at-if1 = at-put-number .before .before .before .before in
     let at-enum-told = at-if1 .before in
     let at-check = at-enum-told .before .before in
-    let few = good-few (at-check .check .ensures .1 .0 (at-enum-told .enum-told .given .1)) in 
-    (few, omega (arith, few, at-if1 .if1 .left, at-put-number .put-number .kept .0, at-put-number2 .put-number2 .kept .0,
-    at-put-words .put-words .kept .0))
+    let few = good-few (at-check .check .ensures .1 .0 (at-enum-told .enum-told .given .1)) in (
+      few,
+      omega (
+        arith,
+        few,
+        at-if1 .if1 .left,
+        at-put-number .put-number .kept .0,
+        at-put-number2 .put-number2 .kept .0,
+        at-put-words .put-words .kept .0,
+      ),
+    )
 
 returns-2 : tie.Need-returns-2
 returns-2 c = write-refused _ _ (sym (c .before .before .before .check .ensures .0) ∙ c .before .r .given .1)
@@ -91,9 +107,13 @@ returns-3 c =
     let t = at-start .args .t in
     let out = at-start .args .out .now in (
       write-fits t out (sym (at-check .check .ensures .0) ∙ at-enum-told .enum-told .given .1) (at-if1 .if1 .left),
-      rw (at-put-words2 .put-words2 .ensures, at-put-words .put-words .ensures, at-put-number2 .put-number2 .ensures,
-      at-put-number .put-number .ensures)
-      (stored t out (good-cares good) (good-values good) (at-if1 .if1 .left)),
+      rw (
+        at-put-words2 .put-words2 .ensures,
+        at-put-words .put-words .ensures,
+        at-put-number2 .put-number2 .ensures,
+        at-put-number .put-number .ensures,
+      )
+          (stored t out (good-cares good) (good-values good) (at-if1 .if1 .left)),
     )
 
 pub write-table-spec : {M : Type 1} → statement M

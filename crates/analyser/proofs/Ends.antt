@@ -1,0 +1,121 @@
+-- How a run ends, by its input: it applies none where the input does not pass its checks; else it applies all its equations, or
+-- those before a full one. Assumes nothing.
+use mathlib.Core.Path.{_≡_, refl, sym, ap, subst, _∙_}
+use mathlib.Core.List.{List, [], _∷_}
+use mathlib.Core.Option.{Option, some, none}
+use Prim.Native.Nat.{ℕ, suc, _+_, _*_}
+use native.Mathlib.Omega.{arith}
+use lib.ListN.{length, drop}
+use Rattle.model.specs.Growth.{Entries}
+use Rattle.model.specs.Terms.{Term}
+use Rattle.tables.specs.declared.Table.{Table}
+use Rattle.tables.specs.declared.Refusal.{Refusal}
+use Rattle.tables.specs.declared.Answer.{Answer}
+use Rattle.tables.specs.declared.Answer.the-variants.{Accepted, Refused}
+use Rattle.tables.specs.declared.Answered.{Answered}
+use Rattle.tables.specs.Refusals.{refusal-number, answer-number}
+use Rattle.tables.specs.Values.{made-or-full, GoodTable}
+use Rattle.terms.specs.Checks as C
+use Rattle.sharing.specs.Calls.{side-told, equation-call}
+use Rattle.codec.specs.Numbers.{numbers}
+use Rattle.codec.proofs.Laws.{length-numbers}
+use Rattle.forms.specs.declared.Extent.the-variants.{Whole}
+use Rattle.forms.specs.Tables.{first-size, second-size}
+use Rattle.forms.specs.Equations.{Written, lefts, counts, share-out, equations-of, after-equation, check-each, check-equations}
+use Rattle.forms.proofs.Tests.{equations-passed}
+use Rattle.forms.proofs.Reading.{read-good}
+use Rattle.running.specs.States.{state, none-applied, go-on, run-from, run-state}
+use Rattle.running.proofs.Steps.{run-unread, run-unchecked, run-goes}
+use Rattle.analyser.specs.Runs.{Ends, through, full}
+use Rattle.analyser.proofs.Equations.{called, accepted-exact}
+use Rattle.analyser.proofs.ByBytes.{Reads, Unread}
+
+-- ---- Before the first equation
+
+module _ (side : ℕ) (b q : List ℕ) where
+  -- A run whose table does not read has applied none, and has the reader's number.
+  pub run-not-read : {r : Refusal} → Unread b r → run-state side b q ≡ none-applied (refusal-number r) side
+  run-not-read e = sym (run-unread side b q (sym e) refl)
+
+  module _ {t : Table} (reads : Reads b t) where
+    -- A run whose equations are refused has applied none, and has their number.
+    pub run-not-checked : {r : Refusal} → check-equations (t .l) q ≡ Refused r
+        → run-state side b q ≡ none-applied (refusal-number r) side
+    run-not-checked e = sym (run-unchecked side b q (sym reads) refl e)
+
+    -- A run of no equations is accepted, with the table that was read.
+    pub run-of-none : check-equations (t .l) q ≡ Accepted → first-size q ≡ 0 → run-state side b q ≡ state 0 side 0 t
+    unfolding equations-of share-out numbers run-from
+    run-of-none e empty =
+        sym (run-goes side b q (sym reads) refl e)
+        ∙ ap (λ (k : ℕ). run-from side t 0 (equations-of k (second-size q) q)) empty
+
+-- ---- Equation by equation
+
+shared-out : (xs cs ts : List ℕ) → length xs ≡ length cs → length (share-out xs cs ts) ≡ length xs
+unfolding share-out
+shared-out [] cs ts h = refl
+shared-out (x ∷ xs) [] ts h = absurd (omega arith)
+shared-out (x ∷ xs) (c ∷ cs) ts h = ap suc (shared-out xs cs (drop c ts) (omega arith))
+
+-- The equations of a form are as many as it says.
+pub equations-many : (e m : ℕ) (b : List ℕ) → length (equations-of e m b) ≡ e
+unfolding equations-of
+equations-many e m b =
+    let many = length-numbers e (drop 4 b) in
+    shared-out (lefts e b) (counts e b) (numbers m (drop (4 + 4 * e) b)) (many ∙ sym (length-numbers e (drop (4 + 2 * e) b)))
+    ∙ many
+
+-- equations that pass their checks: the first reads, and the rest pass
+first-reads : (l : ℕ) (w : Written) (ws : List Written) → check-each l (w ∷ ws) ≡ Accepted
+    → ((u : Term) × (C.check-equation l (w .left) (w .tokens) ≡ C.reads u)) × (check-each l ws ≡ Accepted)
+unfolding check-each after-equation
+first-reads l w ws e = go (C.check-equation l (w .left) (w .tokens)) refl e
+  where
+    go : (o : C.Outcome Term) → C.check-equation l (w .left) (w .tokens) ≡ o → after-equation o (check-each l ws) ≡ Accepted
+        → ((u : Term) × (C.check-equation l (w .left) (w .tokens) ≡ C.reads u)) × (check-each l ws ≡ Accepted)
+    go (C.reads u) h f = ((u, h), f)
+    go (C.refuses r) h f = absurd (let z : _≡_ {A = ℕ} 0 1 = cc in omega arith)
+
+-- where the growth rule decides, a refusal is 8
+full-number : (l : ℕ) (t : Table) (o : Option Entries) {r : Refusal} → made-or-full l t o .answer ≡ Refused r
+    → refusal-number r ≡ 8
+unfolding made-or-full
+full-number l t (some ρ) e = absurd (let z : _≡_ {A = ℕ} 0 1 = cc in omega arith)
+full-number l t none e = ap answer-number (sym e)
+
+from-ends : (side : ℕ) (ws : List Written) (t : Table) (k : ℕ) → GoodTable t → check-each (t .l) ws ≡ Accepted
+    → Ends (run-from side t k ws) (k + length ws)
+unfolding run-from go-on
+from-ends side [] t k good e = through refl (omega arith)
+from-ends side (w ∷ ws) t k good e = go (next .answer) refl (λ u. from-ends side ws u (k + 1))
+  where
+    next : Answered
+    next = equation-call (side-told side) t (w .left) (w .tokens)
+
+    first : ((u : Term) × (C.check-equation (t .l) (w .left) (w .tokens) ≡ C.reads u)) × (check-each (t .l) ws ≡ Accepted)
+    first = first-reads (t .l) w ws e
+
+    go : (y : Answer) → next .answer ≡ y
+        → ((u : Table) → GoodTable u → check-each (u .l) ws ≡ Accepted → Ends (run-from side u (k + 1) ws) ((k + 1) + length ws))
+        → Ends (go-on y (state (answer-number (next .answer)) side k (next .table)) (run-from side (next .table) (k + 1) ws))
+        (k + suc (length ws))
+    go Accepted h later =
+        let m = accepted-exact (side-told side) t (w .left) (w .tokens) good h in
+        let rest = later (next .table) (m .is-good) (rw (m .width) (first .1)) in
+        let same : (k + 1) + length ws ≡ k + suc (length ws) = omega arith in
+        subst (Ends (run-from side (next .table) (k + 1) ws)) same rest
+    go (Refused r) h later =
+        let is = called (side-told side) t (w .left) (w .tokens) good (first .0 .0) (first .0 .1) in
+        let eight = full-number (t .l) t _ (ap (λ (y : Answered). y .answer) (sym is) ∙ h) in
+        full (ap answer-number h ∙ eight) (omega arith)
+
+-- A run whose input passes its checks ends accepted with all its equations applied, or full with fewer.
+pub run-ends : (side : ℕ) (b q : List ℕ) (t : Table) → Reads b t → check-equations (t .l) q ≡ Accepted
+    → Ends (run-state side b q) (length (equations-of (first-size q) (second-size q) q))
+run-ends side b q t reads checked =
+    let ws = equations-of (first-size q) (second-size q) q in
+    let ends : Ends (run-from side t 0 ws) (0 + length ws) =
+    from-ends side ws t 0 (read-good Whole b t reads .0) (equations-passed (t .l) q checked .each) in
+    let all : 0 + length ws ≡ length ws = omega arith in
+    rw (← run-goes side b q (sym reads) refl checked) (subst (Ends (run-from side t 0 ws)) all ends)
