@@ -1,11 +1,10 @@
 // Working lists: two lent arrays of 256 words and a count, with zeros past the count. Inner: not a public call.
-// The scans have no early exit, so that they compile to vector code.
+// The scans have no early exit, or only one after each block of 8, so that they compile to vector code.
 use crate::Table;
 use words::Entry;
 ghost use mathlib.Core.Path.{_≡_};
 ghost use mathlib.Core.Bool.{Bool·beq, true, false, cond};
 ghost use mathlib.Core.List.{[], map};
-ghost use mathlib.Core.Option.{some};
 ghost use Prim.Native.Nat.{ℕ, _-_, _≤_, _<_};
 ghost use lib.Dec.{ltb};
 ghost use lib.ListN.{length, getD};
