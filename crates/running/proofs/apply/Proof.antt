@@ -83,22 +83,14 @@ part-equation-start c = search needs
 
 part-equation-end : tie.Need-part-equation-end Inv-loop μ-loop
 part-equation-end c =
-    let at-number-at = c .before in
-    let at-loop-test = at-number-at .before in
-    let at-loop = at-loop-test .before in
-    let at-start = at-loop .before .before .before .before .before in
-    let p = at-start .pre in
-    let e = at-start .args .e in
-    let m = at-start .args .m in
-    let q = at-start .args .q .now in
-    let w = at-loop .loop in
-    let lt = at-loop-test .loop-test .taken in
-    omega (
-      arith,
-      p .1,
-      place-room e m q (w .k) (w .at) _ _ lt (at-number-at .number-at .ensures) (c .number-at2 .ensures)
-          (w .inv .1 .0),
-    )
+    let room =
+    place-room (c .before .before .before .before .before .before .before .before .args .e)
+    (c .before .before .before .before .before .before .before .before .args .m)
+    (c .before .before .before .before .before .before .before .before .args .q .now) (c .before .before .before .loop .k)
+    (c .before .before .before .loop .at) _ _
+    (c .before .before .loop-test .taken) (c .before .number-at .ensures) (c .number-at2 .ensures)
+    (c .before .before .before .loop .inv .1 .0) in
+    omega (arith, c .before .before .before .before .before .before .before .before .pre .1, room)
 
 equation-requires : tie.Need-equation-requires Inv-loop μ-loop
 equation-requires c κs = search needs
