@@ -23,9 +23,11 @@ use Rattle.tables.specs.declared.Answer.{Answer}
 use Rattle.tables.specs.declared.Answer.the-variants.{Accepted, Refused}
 use Rattle.tables.specs.declared.Answered.{Answered}
 use Rattle.tables.specs.Values.{entries-of, accepts, refuses, made-or-full, good-width, check-table, GoodTable}
-use Rattle.tables.specs.Values.{zero-table, all-below, convert-call}
+use Rattle.tables.specs.Values.{zero-table}
+use Rattle.lists.specs.Lists.{all-below}
+use Rattle.sharing.specs.Calls.{convert-call}
 use Rattle.tables.proofs.Values.{entries-of-table, table-of-good}
-use Rattle.tables.proofs.Converting.{both-true}
+use Rattle.tables.proofs.Tests.{both-true}
 use Rattle.sharing.specs.Calls.{after-check, good-keep, projected, join-call, projection-call, change-side-call}
 use Rattle.sharing.proofs.Demand2.{kept-width}
 use Rattle.forms.specs.declared.Extent.the-variants.{Whole, Front}

@@ -3,7 +3,7 @@
 use forms::Extent;
 use running::Running;
 ghost use mathlib.Core.Path.{_≡_};
-ghost use Rattle.tables.specs.Values.{convert-call};
+ghost use Rattle.sharing.specs.Calls.{convert-call};
 ghost use Rattle.sharing.specs.Calls.{side-told};
 ghost use Rattle.forms.specs.declared.Extent.the-variants.{Whole};
 ghost use Rattle.forms.specs.Tables.{read-table};
@@ -27,7 +27,7 @@ pub extern "C" fn sharing_convert(l: u32, groups: &[u32], out: &mut [u8]) -> u32
     ensures number { λ r. ⌜ r ≡ put-number (convert-call l (now (groups .entry))) (now (out .entry)) ⌝ }
     ensures bytes { λ r. ⌜ now (out .exit) ≡ put-bytes (convert-call l (now (groups .entry))) (now (out .entry)) ⌝ }
 {
-    byte_calls::put(tables::convert(l, groups), out)
+    byte_calls::put(sharing::convert(l, groups), out)
 }
 
 // Changes the side of a table.

@@ -14,7 +14,7 @@ use Rattle.words.specs.declared.Entry.{Entry}
 use Rattle.words.specs.Words.{word}
 use Rattle.tables.specs.Lists.{Holds, strings}
 use Rattle.tables.proofs.Arrays.{holds-is, holds-own}
-use Rattle.tables.proofs.Growing.{holds-append}
+use Rattle.lists.proofs.Growing.{holds-append}
 
 -- Of the row of f at each of n indexes that passes p, strings of l positions: the arrays hold their own k strings, and with
 -- those of the indexes from i on they are the whole row.

@@ -10,7 +10,8 @@ ghost use Rattle.model.specs.Strings.{Trits, or-strings, ones, pieces};
 ghost use Rattle.model.specs.Growth.{Entries};
 ghost use Rattle.model.specs.Tables.{meets-with, kept};
 ghost use Rattle.words.specs.Words.{word, set-word};
-ghost use Rattle.tables.specs.Lists.{Holds, OfString};
+ghost use Rattle.tables.specs.Lists.{Holds};
+ghost use Rattle.lists.specs.Lists.{OfString};
 ghost use Rattle.candidates.specs.Rows.{Fills, selected};
 
 // "a or b" for each b of the list.

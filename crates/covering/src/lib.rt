@@ -13,7 +13,8 @@ ghost use Rattle.model.specs.Growth.{Entries, covered as covered-list};
 ghost use Rattle.model.specs.Tables.{Side, positive, negative};
 ghost use Rattle.model.specs.Questions.{equal as equal-lists, ground, independent};
 ghost use Rattle.words.specs.Words.{word, set-word};
-ghost use Rattle.tables.specs.Lists.{Holds, OfString, HoldsKeys};
+ghost use Rattle.tables.specs.Lists.{Holds};
+ghost use Rattle.lists.specs.Lists.{OfString, HoldsKeys};
 ghost use Rattle.covering.specs.Covering.{Forces, Nearest, agreed as agreed-string, all-covered, within};
 ghost use Rattle.covering.specs.Covering.{greatest, first-string, apart};
 
@@ -147,7 +148,7 @@ pub fn covered(care: &[u32; 256], value: &[u32; 256], n: usize, l: u32, y: Entry
         OfString l (now (care .entry)) (now (value .entry)) n y (λ τ s. r ≡ all-covered l τ s)
         ⌝ }
 {
-    if tables::lists::subsumed(care, value, n, y) {
+    if lists::subsumed(care, value, n, y) {
         return true;
     }
     let x = words::meet(y, forced(care, value, n, y));
@@ -193,7 +194,7 @@ fn covered_keyed(
         ⌝ }
 {
     if l <= 16 {
-        if tables::lists::key_subsumed(keys, n, words::key(y)) {
+        if lists::key_subsumed(keys, n, words::key(y)) {
             return true;
         }
     }
@@ -217,7 +218,7 @@ fn included(
         ⌝ }
 {
     let mut keys = [0u32; 256];
-    tables::lists::write_keys(bcare, bvalue, bn, &mut keys);
+    lists::write_keys(bcare, bvalue, bn, &mut keys);
     let mut i = 0;
     while i < an {
         let y = Entry {

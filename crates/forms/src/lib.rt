@@ -3,7 +3,6 @@ use tables::Answer;
 use tables::Answered;
 use tables::Refusal;
 use tables::Table;
-use tables::lists;
 use terms::Checked;
 ghost use mathlib.Core.Path.{_≡_};
 ghost use mathlib.Core.Bool.{true};
@@ -37,13 +36,13 @@ fn read_entries(l: u32, n: usize, b: &[u8]) -> Answered
 {
     let ycare = codec::words_at(b, 4, n);
     let yvalue = codec::words_at(b, 4 + 2 * n, n);
-    if !lists::all_clean(&ycare, &yvalue, n, l) {
+    if !tables::all_clean(&ycare, &yvalue, n, l) {
         return tables::refused(Refusal::Stray);
     }
     let mut care = [0u32; 256];
     let mut value = [0u32; 256];
     let g = lists::grow_each(&mut care, &mut value, 0, l, &ycare, &yvalue, n);
-    tables::made_or_full(l, Table::zero(), g, &care, &value)
+    lists::made_or_full(l, Table::zero(), g, &care, &value)
 }
 
 // Reads a table: sizes present (1), 2, 3, length (1), 4 by entry.

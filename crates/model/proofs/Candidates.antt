@@ -8,7 +8,8 @@ use native.Mathlib.Nat.{suc-inj, suc-ne-zero}
 use lib.Dec.{T}
 use lib.ListN.{length, length-map}
 use Rattle.model.specs.Groups.{Bits, meets, or}
-use Rattle.model.specs.Strings.{Trit, t1, t*, Trits, covers-digit, covers, matches, meet, or-strings, stars, zeros, zero-if}
+use Rattle.model.specs.Strings.{Trit, t1, t*, Trits, covers-digit, covers, matches, meet, or-strings, stars, zeros}
+use Rattle.model.specs.Strings.{zero-if}
 use Rattle.model.specs.Strings.{one-at, rising, ones}
 use Rattle.model.specs.Growth.{Entries, covered}
 use Rattle.model.specs.Tables.{Wide, meet-if, meets-with, meets-of, ors}

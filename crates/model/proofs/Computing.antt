@@ -2,7 +2,8 @@
 use Rattle.model.specs.Groups.{nonzero, has, meets, or, cut}
 use Rattle.model.specs.Strings.{covers, matches, meet, or-strings, subsumes, all-zero, exactly, stars, fixed, fixed-count}
 use Rattle.model.specs.Strings.{flipped, starred, opposed, one-at, zeros, rising, ones, pieces}
-use Rattle.model.specs.Growth.{_>>=_, fold, covered, subsumed, remove, append, grow, grow-all, widen-at, widen-from, widen}
+use Rattle.model.specs.Growth.{_>>=_, fold, covered, subsumed, remove, append, grow, grow-all, widen-at, widen-from}
+use Rattle.model.specs.Growth.{widen}
 use Rattle.model.specs.Growth.{widen-grow, convert-one, convert}
 use Rattle.model.specs.Tables.{meet-if, meets-with, meets-of, ors, unmatched, pieces-of, relevant, irrelevant, cross}
 use Rattle.model.specs.Tables.{close-with, close, take-away, change-side, positive-equation, equation-of-sets}

@@ -11,7 +11,8 @@ use Rattle.model.specs.Growth.{_>>=_, fold, Entries, grow, widen, widen-
 use Rattle.model.specs.Tables.{Side, positive, negative, meets-of, ors, unmatched, pieces-of, relevant, irrelevant, cross}
 use Rattle.model.specs.Tables.{close-with, close, take-away, change-side, positive-equation, negative-equation}
 use Rattle.model.specs.Tables.{equation-of-sets, join, kept, positive-projection, projection}
-use Rattle.model.specs.Full.{Full, Meets, OrLater, CloseFull, ChangeFull, PositiveFull, NegativeFull, EquationFull, JoinFull}
+use Rattle.model.specs.Full.{Full, Meets, OrLater, CloseFull, ChangeFull, PositiveFull, NegativeFull, EquationFull}
+use Rattle.model.specs.Full.{JoinFull}
 use Rattle.model.specs.Full.{ProjectionFull}
 use Rattle.model.proofs.Given.{fold-append}
 use Rattle.model.proofs.Overflow.{grow-none, full-none, full-exact}

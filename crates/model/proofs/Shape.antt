@@ -8,7 +8,8 @@ use native.Mathlib.Omega.{arith}
 use lib.Dec.{T, ltb, lt→ltb}
 use lib.ListN.{length, length-append}
 use Rattle.model.specs.Strings.{Trits, subsumes, all-zero, fixed, fixed-count, flipped, starred}
-use Rattle.model.specs.Growth.{_>>=_, Entries, limit, fold, subsumed, remove, append, grow, grow-all, widen-at, widen-from}
+use Rattle.model.specs.Growth.{_>>=_, Entries, limit, fold, subsumed, remove, append, grow, grow-all, widen-at}
+use Rattle.model.specs.Growth.{widen-from}
 use Rattle.model.specs.Growth.{widen, widen-grow, Apart, Reduced}
 use Rattle.model.specs.Tables.{Wide}
 use Rattle.model.proofs.Tests.{or-left, or-right, nor, true-of, false-of}

@@ -15,7 +15,7 @@ use Rattle.words.specs.Words.{word, care-of, value-of, set-word}
 use Rattle.words.proofs.Codec.{stars-word}
 use Rattle.words.proofs.Positions.{count-word}
 use Rattle.tables.specs.Lists.{Holds, list-words, padded}
-use Rattle.tables.proofs.Growing.{holds-append}
+use Rattle.lists.proofs.Growing.{holds-append}
 use Rattle.tables.proofs.Values.{holds-empty}
 
 zeros-care : (k : Bits) → care-of (zeros k) ≡ set-word k

@@ -4,10 +4,11 @@ use mathlib.Core.List.{List}
 use mathlib.Core.Option.{Option}
 use Prim.Native.Nat.{ℕ}
 use Rattle.model.specs.Growth.{_>>=_, Entries}
-use Rattle.tables.specs.declared.lists.Grown.{Grown}
-use Rattle.tables.specs.declared.lists.Grown.the-variants.{Count, Full}
-use Rattle.tables.specs.Lists.{Holds, Makes, stops}
-use Rattle.tables.proofs.Toward.{makes-count, makes-full}
+use Rattle.lists.specs.declared.Grown.{Grown}
+use Rattle.lists.specs.declared.Grown.the-variants.{Count, Full}
+use Rattle.tables.specs.Lists.{Holds}
+use Rattle.lists.specs.Lists.{Makes, stops}
+use Rattle.lists.proofs.Toward.{makes-count, makes-full}
 
 module _ {l : ℕ} {care value : List ℕ} {g : Grown} {o : Option Entries} (told : Makes l care value g o)
     (k : Entries → Option Entries) {l′ : ℕ} {care′ value′ : List ℕ} where

@@ -1,17 +1,17 @@
 // Abstract unification, of either side, on working lists. Inner: not a public call.
-use tables::lists;
-use tables::lists::Grown;
+use lists::Grown;
 use words::Entry;
 ghost use mathlib.Core.Path.{_≡_};
 ghost use mathlib.Core.List.{[]};
-ghost use Prim.Native.Nat.{ℕ, _≤_};
+ghost use Prim.Native.Nat.{_≤_};
 ghost use lib.ListN.{length};
 ghost use Rattle.model.specs.Groups.{Bits};
 ghost use Rattle.model.specs.Strings.{ones};
 ghost use Rattle.model.specs.Growth.{Entries, grow-all};
 ghost use Rattle.model.specs.Tables.{positive-equation, negative-equation};
 ghost use Rattle.words.specs.Words.{set-word};
-ghost use Rattle.tables.specs.Lists.{Holds, Within, Makes};
+ghost use Rattle.tables.specs.Lists.{Holds};
+ghost use Rattle.lists.specs.Lists.{Within, Makes};
 ghost use Rattle.procedures.specs.Parts.{OfSets, closed-cross, positive-joined, having-set, negative-joined};
 
 // The closed cross of two lists.

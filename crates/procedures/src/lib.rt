@@ -5,12 +5,11 @@ pub mod equations;
 pub mod projections;
 pub mod sides;
 
-use tables::lists;
-use tables::lists::Grown;
+use lists::Grown;
 use words::Entry;
 ghost use mathlib.Core.Path.{_≡_};
 ghost use mathlib.Core.List.{[], map};
-ghost use Prim.Native.Nat.{ℕ, _≤_};
+ghost use Prim.Native.Nat.{_≤_};
 ghost use lib.ListN.{length};
 ghost use Rattle.model.specs.Groups.{Bits};
 ghost use Rattle.model.specs.Strings.{or-strings};
@@ -18,7 +17,8 @@ ghost use Rattle.model.specs.Growth.{Entries, grow-all};
 ghost use Rattle.model.specs.Tables.{meets-with, meets-of, relevant as relevant-list, irrelevant as irrelevant-list};
 ghost use Rattle.model.specs.Tables.{cross as cross-list, close-with, close as close-list};
 ghost use Rattle.words.specs.Words.{set-word};
-ghost use Rattle.tables.specs.Lists.{Holds, OfString, Within, Makes};
+ghost use Rattle.tables.specs.Lists.{Holds};
+ghost use Rattle.lists.specs.Lists.{OfString, Within, Makes};
 
 // Grows a list by the meets of a with each string of another list that it matches.
 fn meets_one(

@@ -1,15 +1,15 @@
 // Projection on working lists. Inner: not a public call.
-use tables::lists;
-use tables::lists::Grown;
+use lists::Grown;
 ghost use mathlib.Core.Path.{_≡_};
 ghost use mathlib.Core.List.{[]};
-ghost use Prim.Native.Nat.{ℕ, _≤_};
+ghost use Prim.Native.Nat.{_≤_};
 ghost use lib.ListN.{length};
 ghost use Rattle.model.specs.Groups.{Bits};
 ghost use Rattle.model.specs.Growth.{Entries};
 ghost use Rattle.model.specs.Tables.{positive as positive-side, negative as negative-side, kept, projection};
 ghost use Rattle.words.specs.Words.{set-word};
-ghost use Rattle.tables.specs.Lists.{Holds, Within, Makes};
+ghost use Rattle.tables.specs.Lists.{Holds};
+ghost use Rattle.lists.specs.Lists.{Within, Makes};
 
 // Projection, positive, onto the set keep: each entry is cut and grown.
 pub fn positive(

@@ -1,16 +1,16 @@
 // Change of side on working lists. Inner: not a public call.
-use tables::lists;
-use tables::lists::Grown;
+use lists::Grown;
 use words::Entry;
 ghost use mathlib.Core.Path.{_≡_};
 ghost use mathlib.Core.List.{[]};
-ghost use Prim.Native.Nat.{ℕ, _≤_};
+ghost use Prim.Native.Nat.{_≤_};
 ghost use lib.ListN.{length};
 ghost use Rattle.model.specs.Strings.{Trits, pieces};
 ghost use Rattle.model.specs.Growth.{fold, Entries, widen-grow};
 ghost use Rattle.model.specs.Tables.{take-away, change-side};
 ghost use Rattle.words.specs.Words.{word};
-ghost use Rattle.tables.specs.Lists.{Holds, OfString, Within, Makes};
+ghost use Rattle.tables.specs.Lists.{Holds};
+ghost use Rattle.lists.specs.Lists.{OfString, Within, Makes};
 ghost use Rattle.procedures.specs.Parts.{grow-pieces};
 
 // Widens each string of a row against the list as it then is, and grows the list by it.

@@ -5,7 +5,7 @@ use Prim.Native.Nat.{ℕ, _-_, _^_, _≤_, _<_}
 use borrow.Author.Tests.{ltb-true, leb-true}
 use lib.Dec.{ltb, leb}
 use Rattle.model.specs.Tokens.{named}
-use Rattle.tables.proofs.Converting.{both-true, below-full}
+use Rattle.tables.proofs.Tests.{both-true, below-full}
 use Rattle.questions.specs.Replies.{good-sets}
 
 pub named-range : (l x : ℕ) → named l x ≡ true → (0 < x) × (x ≤ l)

@@ -13,7 +13,7 @@ use Rattle.tables.specs.declared.Answer.the-variants.{Accepted, Refused}
 use Rattle.tables.specs.declared.Answered.{Answered}
 use Rattle.tables.specs.Refusals.{refusal-number, answer-number}
 use Rattle.tables.specs.Values.{accepts}
-use Rattle.tables.proofs.Converting.{both-true}
+use Rattle.tables.proofs.Tests.{both-true}
 use Rattle.tables.proofs.Checking.{width-most}
 use Rattle.terms.specs.Checks.{most-tokens}
 use Rattle.sharing.specs.Calls.{side-told, equation-call}

@@ -16,7 +16,7 @@ use Rattle.tables.specs.declared.Refusal.the-variants as R
 use Rattle.tables.specs.Lists.{Holds}
 use Rattle.tables.specs.Values.{refuses, GoodTable, entries-of}
 use Rattle.tables.proofs.Checking.{good-holds, width-most}
-use Rattle.tables.proofs.Converting.{both-true, below-full}
+use Rattle.tables.proofs.Tests.{both-true, below-full}
 use Rattle.terms.specs.declared.Checked.the-variants.{Variables, Refused}
 use Rattle.terms.specs.Checks as C
 use Rattle.terms.specs.Checks.{check-equation, check-term, checked}

@@ -29,7 +29,7 @@ use Rattle.tables.specs.declared.Answered.{Answered}
 use Rattle.tables.specs.Values.{table-of, entries-of, refuses, made-or-full, good-width, check-table, GoodTable}
 use Rattle.tables.proofs.Values.{entries-of-table, table-of-good}
 use Rattle.tables.proofs.Checking.{width-most, passes-good}
-use Rattle.tables.proofs.Converting.{both-true}
+use Rattle.tables.proofs.Tests.{both-true}
 use Rattle.terms.specs.Checks as C
 use Rattle.sharing.specs.Calls.{after-check, after-term, good-keep, projected, equation-call, join-call, projection-call}
 use Rattle.sharing.specs.Calls.{change-side-call}

@@ -1,9 +1,10 @@
 -- The calls on table values (01, "Refusals"): the table's own 2, 3, 4, of two tables the first's first; then the equation's
--- checks, 10 or 11; then 8. A refusal returns the table as given, of two the first.
+-- checks, 10 or 11; then 8. A refusal returns the table as given, of two the first, and one all zero where none came in.
 use mathlib.Core.Bool.{Bool, _&&_, cond}
-use mathlib.Core.List.{List}
+use mathlib.Core.List.{List, map}
 use Prim.Native.Nat.{ℕ, _^_}
 use lib.Dec.{ltb, eqb}
+use Rattle.model.specs.Growth.{convert}
 use Rattle.model.specs.Terms.{Term}
 use Rattle.model.specs.Tables.{positive, negative, change-side, join, kept, projection}
 use Rattle.model.specs.Tables as M
@@ -14,7 +15,8 @@ use Rattle.tables.specs.declared.Refusal.the-variants as R
 use Rattle.tables.specs.declared.Answer.{Answer}
 use Rattle.tables.specs.declared.Answer.the-variants.{Accepted, Refused}
 use Rattle.tables.specs.declared.Answered.{Answered}
-use Rattle.tables.specs.Values.{entries-of, refuses, made-or-full, check-table}
+use Rattle.tables.specs.Values.{good-width, zero-table, entries-of, refuses, made-or-full, check-table}
+use Rattle.lists.specs.Lists.{all-below}
 use Rattle.terms.specs.Checks as C
 use Rattle.sharing.specs.declared.Side.{Side}
 use Rattle.sharing.specs.declared.Side.the-variants.{Positive, Negative}
@@ -37,6 +39,13 @@ after-check (Refused r) t a = refuses r t
 unfoldable pub after-term : C.Outcome Term → Table → (Term → Answered) → Answered
 after-term (C.reads u) t go = go u
 after-term (C.refuses r) t go = refuses r t
+
+-- Convert groups, given as l and a row of words: 2, then 4 for a bit above l, then 8.
+unfoldable pub convert-call : ℕ → List ℕ → Answered
+convert-call l ws =
+    cond (good-width l)
+    (cond (all-below l ws) (made-or-full l zero-table (convert (map (set l) ws))) (refuses R.Stray zero-table))
+    (refuses R.Width zero-table)
 
 -- The equation Xx = the term of the tokens ts: 2, 3, 4; 7; 5 of x; 5 of the tokens; 6; 8.
 unfoldable pub equation-call : M.Side → Table → ℕ → List ℕ → Answered

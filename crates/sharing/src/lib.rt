@@ -1,5 +1,6 @@
-// The operations on table values, of both sides: equation, join, projection and change of side.
+// The operations on table values, of both sides: conversion, equation, join, projection and change of side.
 // A refusal returns the table as given; of two tables, the first.
+use lists::Grown;
 use procedures::equations;
 use procedures::projections;
 use procedures::sides;
@@ -7,8 +8,6 @@ use tables::Answer;
 use tables::Answered;
 use tables::Refusal;
 use tables::Table;
-use tables::lists;
-use tables::lists::Grown;
 use terms::Checked;
 ghost use mathlib.Core.Path.{_≡_};
 ghost use mathlib.Core.List.{[]};
@@ -18,10 +17,12 @@ ghost use Rattle.model.specs.Groups.{Bits};
 ghost use Rattle.model.specs.Growth.{Entries};
 ghost use Rattle.model.specs.Tables.{equation-of-sets, join as join-lists, kept, projection};
 ghost use Rattle.words.specs.Words.{set-word};
-ghost use Rattle.tables.specs.Lists.{Holds, Makes};
+ghost use Rattle.tables.specs.Lists.{Holds};
+ghost use Rattle.lists.specs.Lists.{Makes};
 ghost use Rattle.tables.specs.Values.{refuses, made-or-full, GoodTable, entries-of};
 ghost use Rattle.procedures.specs.Parts.{OfSets};
-ghost use Rattle.sharing.specs.Calls.{side-of, side-told, equation-call, join-call, projection-call, change-side-call};
+ghost use Rattle.sharing.specs.Calls.{side-of, side-told, convert-call, equation-call, join-call, projection-call};
+ghost use Rattle.sharing.specs.Calls.{change-side-call};
 
 // A table is positive or negative.
 pub enum Side {
@@ -47,6 +48,22 @@ pub fn refused(r: Refusal, t: Table) -> Answered
         answer: Answer::Refused(r),
         table: t,
     }
+}
+
+// Convert groups, given as l and a row of words, bit i - 1 for Xi.
+pub fn convert(l: u32, words: &[u32]) -> Answered
+    ensures { λ r. ⌜ r ≡ convert-call l (now (words .entry)) ⌝ }
+{
+    if !tables::good_width(l) {
+        return tables::refused(Refusal::Width);
+    }
+    if !lists::all_below(l, words) {
+        return tables::refused(Refusal::Stray);
+    }
+    let mut care = [0u32; 256];
+    let mut value = [0u32; 256];
+    let g = lists::convert(&mut care, &mut value, l, words);
+    lists::made_or_full(l, Table::zero(), g, &care, &value)
 }
 
 // The entries after an equation, for x alone in mx and t's variables in mt.
@@ -89,7 +106,7 @@ fn equate(side: Side, t: Table, mx: u32, mt: u32) -> Answered
     let mut care = [0u32; 256];
     let mut value = [0u32; 256];
     let g = equation_list(side, &tcare, &tvalue, n, l, mx, mt, &mut care, &mut value);
-    tables::made_or_full(l, t, g, &care, &value)
+    lists::made_or_full(l, t, g, &care, &value)
 }
 
 // The equation Xx = the term of the tokens.
@@ -166,7 +183,7 @@ fn unite(side: Side, t: Table, u: Table) -> Answered
         &mut care,
         &mut value,
     );
-    tables::made_or_full(l, t, g, &care, &value)
+    lists::made_or_full(l, t, g, &care, &value)
 }
 
 // The join of two tables of one side.
@@ -229,7 +246,7 @@ pub fn project(side: Side, t: Table, keep: u32) -> Answered
             let mut care = [0u32; 256];
             let mut value = [0u32; 256];
             let g = projection_list(side, &tcare, &tvalue, n, l, keep, &mut care, &mut value);
-            tables::made_or_full(u32::count_ones(keep), t, g, &care, &value)
+            lists::made_or_full(u32::count_ones(keep), t, g, &care, &value)
         }
     }
 }
@@ -248,7 +265,7 @@ pub fn change_side(side: Side, t: Table) -> Answered
             let mut care = [0u32; 256];
             let mut value = [0u32; 256];
             let g = sides::change_side(&tcare, &tvalue, n, l, &mut care, &mut value);
-            tables::made_or_full(l, t, g, &care, &value)
+            lists::made_or_full(l, t, g, &care, &value)
         }
     }
 }

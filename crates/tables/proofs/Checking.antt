@@ -21,11 +21,12 @@ use Rattle.tables.specs.declared.Refusal.{Refusal}
 use Rattle.tables.specs.declared.Refusal.the-variants as R
 use Rattle.tables.specs.declared.Answer.the-variants.{Accepted, Refused}
 use Rattle.tables.specs.Lists.{zero-entry, padded, list-words, Holds, pairs, strings}
-use Rattle.tables.specs.Values.{clean, is-zero, entry-at, all-from, all-clean, zero-past, good-width, table-of, entries-of}
+use Rattle.tables.specs.Values.{clean, is-zero, entry-at, all-from, all-clean, zero-past, good-width, table-of}
+use Rattle.tables.specs.Values.{entries-of}
 use Rattle.tables.specs.Values.{check-table, GoodTable}
 use Rattle.tables.proofs.Arrays.{arrays-at, holds-at, holds-length}
 use Rattle.tables.proofs.Values.{holds-good}
-use Rattle.tables.proofs.Converting.{below-full, both-true}
+use Rattle.tables.proofs.Tests.{below-full, both-true}
 
 -- ---- A test of all indexes
 

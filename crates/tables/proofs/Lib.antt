@@ -1,13 +1,5 @@
 pub mod Arrays
-pub mod Packing
-pub mod Growing
-pub mod Values
-pub mod Widening
-pub mod Toward
-pub mod Converting
+pub mod Tests
 pub mod Scans
+pub mod Values
 pub mod Checking
-pub mod Idle
-pub mod Keyed
-pub mod Passing
-pub mod Answering

@@ -1,7 +1,8 @@
 -- The refusals and their numbers (01, "Refusals").
 use Prim.Native.Nat.{ℕ}
 use Rattle.tables.specs.declared.Refusal.{Refusal}
-use Rattle.tables.specs.declared.Refusal.the-variants.{Torn, Width, Entries, Stray, Name, Term, Long, Full, Narrow, Unlike}
+use Rattle.tables.specs.declared.Refusal.the-variants.{Torn, Width, Entries, Stray, Name, Term, Long, Full, Narrow}
+use Rattle.tables.specs.declared.Refusal.the-variants.{Unlike}
 use Rattle.tables.specs.declared.Refusal.the-variants.{Keep}
 use Rattle.tables.specs.declared.Answer.{Answer}
 use Rattle.tables.specs.declared.Answer.the-variants.{Accepted, Refused}

@@ -1,16 +1,15 @@
 -- Table values: the value of a list of strings and back, the check of a value, and the call that converts groups.
 use mathlib.Core.Path.{_≡_}
 use mathlib.Core.Bool.{Bool, true, _&&_, cond}
-use mathlib.Core.List.{List, [], _∷_, map}
+use mathlib.Core.List.{List, map}
 use mathlib.Core.Option.{Option, some, none}
 use Prim.Native.Nat.{ℕ, zero, suc, _-_, _^_}
 use lib.Bits.{bitAnd}
 use lib.Dec.{ltb, leb, eqb}
 use lib.ListN.{length, getD, replicate}
-use Rattle.model.specs.Growth.{Entries, limit, convert}
+use Rattle.model.specs.Growth.{Entries, limit}
 use Rattle.model.specs.Tables.{Good}
 use Rattle.words.specs.declared.Entry.{Entry}
-use Rattle.words.specs.Words.{set}
 use Rattle.tables.specs.declared.Table.{Table}
 use Rattle.tables.specs.declared.Refusal.{Refusal}
 use Rattle.tables.specs.declared.Refusal.the-variants as R
@@ -112,15 +111,3 @@ pub record GoodTable (t : Table) : Type 0 where
 -- The table of one list, or 2 for a bad width.
 unfoldable pub of-width : ℕ → Entries → Answered
 of-width l τ = cond (good-width l) (accepts (table-of l τ)) (refuses R.Width zero-table)
-
--- No word has a bit above l.
-unfoldable pub all-below : ℕ → List ℕ → Bool
-all-below l [] = true
-all-below l (w ∷ ws) = ltb w (2 ^ l) && all-below l ws
-
--- Convert groups, given as l and a row of words: 2, then 4 for a bit above l, then 8.
-unfoldable pub convert-call : ℕ → List ℕ → Answered
-convert-call l ws =
-    cond (good-width l)
-    (cond (all-below l ws) (made-or-full l zero-table (convert (map (set l) ws))) (refuses R.Stray zero-table))
-    (refuses R.Width zero-table)

@@ -1,18 +1,13 @@
-// Tables of ternary strings: the table value with its limits, the refusals, the check of a table value, and conversion.
-// `lists` is inner: not a public call.
-pub mod lists;
-
-use lists::Grown;
+// Tables of ternary strings: the table value with its limits, the refusals, and the check of a table value.
 ghost use mathlib.Core.Path.{_≡_};
 ghost use mathlib.Core.Bool.{cond};
 ghost use mathlib.Core.List.{[], _∷_};
-ghost use mathlib.Core.Option.{Option};
+ghost use Prim.Native.Nat.{_≤_};
 ghost use Rattle.model.specs.Strings.{stars};
-ghost use Rattle.model.specs.Growth.{Entries};
-ghost use Rattle.tables.specs.Lists.{Makes};
 ghost use Rattle.tables.specs.Refusals.{refusal-number, answer-number};
-ghost use Rattle.tables.specs.Values.{zeros-of, zero-table, accepts, refuses, good-width, check-table, GoodTable, of-width};
-ghost use Rattle.tables.specs.Values.{made-or-full, convert-call};
+ghost use Rattle.tables.specs.Values.{zeros-of, zero-table, accepts, refuses, good-width, check-table, GoodTable};
+ghost use Rattle.tables.specs.Values.{of-width};
+ghost use Rattle.tables.specs.Values.{all-clean, zero-past};
 
 // A table value: l variables, n entries in order, and zeros past the count. Bit i - 1 of a word is for Xi.
 #[repr(C)]
@@ -148,28 +143,37 @@ pub fn refused(r: Refusal) -> Answered
     }
 }
 
-// The table of a working list of strings of l positions; 8 where there is none, with the table that is then returned. Inner:
-// not a public call.
-pub fn made_or_full(l: u32, t: Table, g: Grown, care: &[u32; 256], value: &[u32; 256]) -> Answered
-    ensures { λ r. ⌜
-        ((o : Option Entries) → Makes l (now (care .entry)) (now (value .entry)) g o → r ≡ made-or-full l t o)
-        ⌝ }
+// Has none of the first n entries a bit above l or a value without care? Inner: not a public call.
+pub fn all_clean(care: &[u32; 256], value: &[u32; 256], n: usize, l: u32) -> bool
+    requires { ⌜ (n ≤ 256) × (l ≤ 32) ⌝ }
+    ensures { λ r. ⌜ r ≡ all-clean l n (now (care .entry)) (now (value .entry)) ⌝ }
 {
-    match g {
-        Grown::Count(n) => Answered {
-            answer: Answer::Accepted,
-            table: Table {
-                l: l,
-                n: n,
-                care: *care,
-                value: *value,
-            },
-        },
-        Grown::Full => Answered {
-            answer: Answer::Refused(Refusal::Full),
-            table: t,
-        },
+    let full = words::full(l);
+    let mut good = true;
+    let mut i = 0;
+    while i < n {
+        let c = care[i];
+        let v = value[i];
+        good = good & ((c <= full) & ((v & c) == v));
+        i += 1;
     }
+    good
+}
+
+// Are the entries past the first n zero?
+fn zero_past(care: &[u32; 256], value: &[u32; 256], n: usize) -> bool
+    requires { ⌜ n ≤ 256 ⌝ }
+    ensures { λ r. ⌜ r ≡ zero-past n (now (care .entry)) (now (value .entry)) ⌝ }
+{
+    let mut good = true;
+    let mut i = n;
+    while i < Table::ENTRIES {
+        let c = care[i];
+        let v = value[i];
+        good = good & ((c == 0) & (v == 0));
+        i += 1;
+    }
+    good
 }
 
 // Does the table value meet 2, 3 or 4?
@@ -187,27 +191,11 @@ pub fn check(t: Table) -> Answer
     }
     let care = t.care;
     let value = t.value;
-    if !lists::all_clean(&care, &value, n, l) {
+    if !all_clean(&care, &value, n, l) {
         return Answer::Refused(Refusal::Stray);
     }
-    if !lists::zero_past(&care, &value, n) {
+    if !zero_past(&care, &value, n) {
         return Answer::Refused(Refusal::Stray);
     }
     Answer::Accepted
-}
-
-// Convert groups, given as l and a row of words, bit i - 1 for Xi.
-pub fn convert(l: u32, words: &[u32]) -> Answered
-    ensures { λ r. ⌜ r ≡ convert-call l (now (words .entry)) ⌝ }
-{
-    if !good_width(l) {
-        return refused(Refusal::Width);
-    }
-    if !lists::all_below(l, words) {
-        return refused(Refusal::Stray);
-    }
-    let mut care = [0u32; 256];
-    let mut value = [0u32; 256];
-    let g = lists::convert(&mut care, &mut value, l, words);
-    made_or_full(l, Table::zero(), g, &care, &value)
 }

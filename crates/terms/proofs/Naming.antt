@@ -13,7 +13,7 @@ use lib.ListN.{length, getD, drop, drop-of-length-le}
 use lib.Seq.{drop-cons}
 use Rattle.model.specs.Tokens.{is-variable, named}
 use Rattle.words.proofs.Positions.{one-shl}
-use Rattle.tables.proofs.Converting.{both-true}
+use Rattle.tables.proofs.Tests.{both-true}
 use Rattle.terms.specs.Checks.{token-named, all-named, word-of}
 use Rattle.terms.proofs.Sets.{or-assoc}
 

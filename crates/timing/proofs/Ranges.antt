@@ -9,9 +9,9 @@ use borrow.Author.Tests.{le-leb}
 use Rattle.model.specs.Growth.{Entries}
 use Rattle.tables.specs.declared.Refusal.{Refusal}
 use Rattle.tables.specs.declared.Refusal.the-variants as R
-use Rattle.tables.specs.declared.lists.Grown.{Grown}
-use Rattle.tables.specs.declared.lists.Grown.the-variants.{Count, Full}
-use Rattle.tables.specs.Lists.{Leaves}
+use Rattle.lists.specs.declared.Grown.{Grown}
+use Rattle.lists.specs.declared.Grown.the-variants.{Count, Full}
+use Rattle.lists.specs.Lists.{Leaves}
 use Rattle.tables.specs.Refusals.{refusal-number}
 use Rattle.timing.specs.Timed.{grown}
 

@@ -3,8 +3,8 @@ use mathlib.Core.Bool.{Bool, _&&_, cond}
 use Prim.Native.Nat.{ℕ, _+_}
 use lib.Dec.{leb}
 use Rattle.tables.specs.declared.Answered.{Answered}
-use Rattle.tables.specs.declared.lists.Grown.{Grown}
-use Rattle.tables.specs.declared.lists.Grown.the-variants.{Count, Full}
+use Rattle.lists.specs.declared.Grown.{Grown}
+use Rattle.lists.specs.declared.Grown.the-variants.{Count, Full}
 use Rattle.tables.specs.Refusals.{refusal-number, answer-number}
 use Rattle.questions.specs.declared.Reply.{Reply}
 use Rattle.questions.specs.declared.Reply.the-variants.{Yes, No, Refused}

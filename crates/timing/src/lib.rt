@@ -1,7 +1,7 @@
 // Entry points of the benchmark: no part of the library's calls.
+use lists::Grown;
 use questions::Reply;
 use tables::Table;
-use tables::lists::Grown;
 ghost use mathlib.Core.Path.{_≡_};
 ghost use mathlib.Core.Bool.{true, false};
 ghost use lib.ListN.{length};
@@ -10,8 +10,9 @@ ghost use Rattle.model.specs.Growth.{Entries, grow-all};
 ghost use Rattle.model.specs.Tables.{Side, negative};
 ghost use Rattle.model.specs.Questions.{equal, independent};
 ghost use Rattle.words.specs.Words.{set-word};
-ghost use Rattle.tables.specs.Lists.{Holds, Leaves};
-ghost use Rattle.tables.specs.Values.{convert-call};
+ghost use Rattle.tables.specs.Lists.{Holds};
+ghost use Rattle.lists.specs.Lists.{Leaves};
+ghost use Rattle.sharing.specs.Calls.{convert-call};
 ghost use Rattle.sharing.specs.Calls.{side-told, equation-call};
 ghost use Rattle.questions.specs.Replies.{equal-call, independent-call};
 ghost use Rattle.timing.specs.Timed.{numbered, fits-one, fits, grown, reply-number, number-of};
@@ -28,7 +29,7 @@ pub struct Timed {
 pub extern "C" fn timing_convert(l: u32, words: &[u32]) -> Timed
     ensures { λ r. ⌜ r ≡ numbered (convert-call l (now (words .entry))) ⌝ }
 {
-    let a = tables::convert(l, words);
+    let a = sharing::convert(l, words);
     let answer = a.answer;
     let table = a.table;
     let code = tables::answer_number(answer);
@@ -79,7 +80,7 @@ pub extern "C" fn timing_grow(
     if !((n <= 256) & (l <= 32) & (m <= 256)) {
         return 258;
     }
-    match tables::lists::grow_all(care, value, n, l, ycare, yvalue, m) {
+    match lists::grow_all(care, value, n, l, ycare, yvalue, m) {
         Grown::Count(k) => k,
         Grown::Full => 257,
     }

@@ -11,7 +11,8 @@ use lib.Pow.{pow-mono, shl-exact, high, low}
 use Rattle.model.specs.Strings.{Trit, t0, t1, t*, Trits, subsumes}
 use Rattle.words.specs.Words.{care-bit, value-bit, care-of, value-of, word, zero-bit, zeros-of}
 use Rattle.words.specs.Words.{key-of, within, key-words, of-key-words}
-use Rattle.words.proofs.Digits.{care-bit-lt, value-bit-lt, Digitwise, care-l, value-l, care-r, value-r, and-of, xor-of, nine}
+use Rattle.words.proofs.Digits.{care-bit-lt, value-bit-lt, Digitwise, care-l, value-l, care-r, value-r, and-of, xor-of}
+use Rattle.words.proofs.Digits.{nine}
 use Rattle.words.proofs.Digits.{eqb-block}
 use Rattle.words.proofs.Words.{subsumes-tests}
 use Rattle.words.proofs.Codec.{care-lt, value-lt}

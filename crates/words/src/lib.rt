@@ -2,7 +2,7 @@
 // Each contract says what comes out for any words, and for the words of strings of any one length that it is the model's operation.
 ghost use mathlib.Core.Path.{_≡_};
 ghost use mathlib.Core.Bool.{true, false};
-ghost use Prim.Native.Nat.{ℕ, _-_, _^_, _≤_, _<_};
+ghost use Prim.Native.Nat.{_-_, _^_, _≤_, _<_};
 ghost use lib.ListN.{length};
 ghost use lib.Count.{ones};
 ghost use Rattle.model.specs.Groups.{Bits, cut as cut-string};

@@ -11,7 +11,7 @@ use Rattle.model.specs.Strings.{Trits, fixed, opposed}
 use Rattle.model.proofs.Positions.{opposed-length}
 use Rattle.words.specs.Words.{word}
 use Rattle.tables.specs.Lists.{Holds}
-use Rattle.tables.proofs.Converting.{both-true}
+use Rattle.tables.proofs.Tests.{both-true}
 use Rattle.candidates.proofs.Filling.{Filling, fill-start, fill-add, fill-pass}
 use Rattle.candidates.proofs.RowLaws.{pieces-end}
 use Rattle.candidates.proofs.piece_row.Statement.{statement}

@@ -13,7 +13,7 @@ use borrow.Fn.PlainCycle.{Measures, is, falls, and}
 use lib.ListN.{getD}
 use Rattle.model.specs.Strings.{meet}
 use Rattle.model.proofs.Candidates.{meet-length}
-use Rattle.tables.specs.Lists.{OfString}
+use Rattle.lists.specs.Lists.{OfString}
 use Rattle.tables.proofs.Arrays.{holds-at, holds-length}
 use Rattle.covering.proofs.Pieces.{covered-none, Left, left-start, left-pass, left-fail, left-next, left-done, answer}
 use Rattle.covering.proofs.Forcing.{covered-subsumed, covered-forced}
@@ -25,7 +25,7 @@ use Rattle.covering.proofs.agreed.Reads as agreed-reads
 use Rattle.covering.proofs.forced.Reads as forced-reads
 use Rattle.covering.proofs.nearest.Reads as nearest-reads
 use Rattle.covering.proofs.splits.Reads as splits-reads
-use Rattle.tables.proofs.lists.subsumed.Reads as subsumed-reads
+use Rattle.lists.proofs.subsumed.Reads as subsumed-reads
 use Rattle.words.proofs.is_zero.Reads as is-zero-reads
 use Rattle.words.proofs.meet.Reads as meet-reads
 use Rattle.words.proofs.opposed.Reads as opposed-reads

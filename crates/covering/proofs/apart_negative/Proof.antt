@@ -8,7 +8,7 @@ use Rattle.model.specs.Groups.{Bits}
 use Rattle.model.specs.Strings.{covers}
 use Rattle.model.proofs.Candidates.{meet-length}
 use Rattle.words.specs.Words.{set-word}
-use Rattle.tables.specs.Lists.{OfString}
+use Rattle.lists.specs.Lists.{OfString}
 use Rattle.covering.specs.Covering.{first-string}
 use Rattle.covering.proofs.Firsts.{first-length}
 use Rattle.covering.proofs.Meeting.{part, part-meet, part-none, apart-no, apart-all}

@@ -3,7 +3,7 @@ use Prim.Native.Nat.{ℕ, _<_, _≤_, _-_}
 use native.Mathlib.Omega.{arith}
 use borrow.Author.Needs.{needs}
 use Rattle.model.specs.Growth.{covered}
-use Rattle.tables.specs.Lists.{OfString}
+use Rattle.lists.specs.Lists.{OfString}
 use Rattle.tables.proofs.Arrays.{holds-at, holds-length}
 use Rattle.covering.specs.Covering.{Forces}
 use Rattle.covering.proofs.Forcing.{forces-nothing, forces-more}

@@ -11,7 +11,7 @@ use borrow.Author.Needs.{needs}
 use lib.ListN.{getD}
 use Rattle.model.specs.Strings.{Trits, matches}
 use Rattle.model.specs.Growth.{Entries}
-use Rattle.tables.specs.Lists.{OfString}
+use Rattle.lists.specs.Lists.{OfString}
 use Rattle.tables.proofs.Arrays.{holds-at, holds-length}
 use Rattle.covering.proofs.Every.{untrue}
 use Rattle.covering.proofs.nearest.Statement.{statement}

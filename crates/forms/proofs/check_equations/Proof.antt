@@ -2,7 +2,7 @@ use mathlib.Core.Path.{sym, _∙_}
 use native.Mathlib.Omega.{arith}
 use borrow.Author.Tests.{not-true, not-false, leb-true}
 use borrow.Author.Needs.{needs}
-use Rattle.tables.proofs.Converting.{both-true}
+use Rattle.tables.proofs.Tests.{both-true}
 use Rattle.forms.proofs.Outcomes.{equations-unsized, equations-long, equations-torn, equations-sum, equations-each}
 use Rattle.forms.proofs.check_equations.Statement.{statement}
 use Rattle.forms.proofs.check_equations.Tie as tie

@@ -1,7 +1,7 @@
 use native.Mathlib.Omega.{arith}
 use Rattle.model.specs.Growth.{grow}
 use Rattle.tables.proofs.Values.{holds-empty}
-use Rattle.tables.proofs.Toward.{leaves-makes, within-count}
+use Rattle.lists.proofs.Toward.{leaves-makes, within-count}
 use Rattle.procedures.proofs.Folds.{close-row}
 use Rattle.procedures.proofs.Steps.{makes-then, stops-then}
 use borrow.Author.Needs.{needs}

@@ -1,7 +1,7 @@
 use mathlib.Core.Path.{refl}
 use borrow.Author.Tests.{not-true, not-false, leb-true}
-use Rattle.tables.proofs.Converting.{both-true}
-use Rattle.tables.proofs.Toward.{within-count}
+use Rattle.tables.proofs.Tests.{both-true}
+use Rattle.lists.proofs.Toward.{within-count}
 use Rattle.timing.proofs.Ranges.{not-both, leaves-number, leaves-257}
 use borrow.Author.Needs.{needs}
 use Rattle.timing.proofs.timing_grow.Statement.{statement}

@@ -3,7 +3,7 @@ use native.Mathlib.Omega.{arith}
 use Rattle.model.specs.Strings.{zeros}
 use Rattle.model.specs.Tables.{change-side}
 use Rattle.model.proofs.Candidates.{zeros-length}
-use Rattle.tables.proofs.Toward.{leaves-makes, within-count}
+use Rattle.lists.proofs.Toward.{leaves-makes, within-count}
 use Rattle.procedures.specs.Parts.{having-set}
 use Rattle.procedures.proofs.Sets.{zeros-word}
 use Rattle.procedures.proofs.Steps.{makes-then, stops-then}

@@ -8,7 +8,7 @@ use Rattle.model.specs.Tables.{meets-of}
 use Rattle.model.proofs.Bits.{or-length}
 use Rattle.words.proofs.Codec.{set-word-or}
 use Rattle.tables.proofs.Values.{holds-empty}
-use Rattle.tables.proofs.Toward.{within-count}
+use Rattle.lists.proofs.Toward.{within-count}
 use Rattle.procedures.proofs.Folds.{negative-regrouped}
 use Rattle.procedures.proofs.Steps.{makes-then, stops-then}
 use borrow.Author.Needs.{needs}

@@ -5,7 +5,7 @@ use Rattle.model.specs.Growth.{_>>=_, grow-all}
 use Rattle.model.proofs.Bits.{or-length}
 use Rattle.words.proofs.Codec.{set-word-or}
 use Rattle.tables.proofs.Values.{holds-empty}
-use Rattle.tables.proofs.Toward.{within-count}
+use Rattle.lists.proofs.Toward.{within-count}
 use Rattle.procedures.specs.Parts.{positive-joined}
 use Rattle.procedures.proofs.Folds.{positive-regrouped}
 use Rattle.procedures.proofs.Steps.{makes-then, stops-then}

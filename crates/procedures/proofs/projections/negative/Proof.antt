@@ -5,7 +5,7 @@ use native.Mathlib.Omega.{arith}
 use Rattle.model.specs.Growth.{_>>=_}
 use Rattle.model.specs.Tables.{change-side, kept, positive-projection, projection}
 use Rattle.tables.proofs.Values.{holds-empty}
-use Rattle.tables.proofs.Toward.{within-count}
+use Rattle.lists.proofs.Toward.{within-count}
 use Rattle.procedures.proofs.Steps.{makes-then, stops-then}
 use borrow.Author.Needs.{needs}
 use Rattle.procedures.proofs.projections.negative.Statement.{statement}

@@ -1,6 +1,6 @@
 use mathlib.Core.Path.{sym, _∙_}
 use native.Mathlib.Omega.{arith}
-use Rattle.tables.specs.Lists.{makes}
+use Rattle.lists.specs.Lists.{makes}
 use Rattle.tables.proofs.Values.{holds-empty}
 use Rattle.procedures.proofs.Folds.{take-away-selected, take-away-none}
 use borrow.Author.Needs.{needs}

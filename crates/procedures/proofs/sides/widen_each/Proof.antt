@@ -5,9 +5,10 @@ use native.Mathlib.Omega.{arith}
 use lib.ListN.{getD}
 use Rattle.model.specs.Growth.{fold, Entries, widen-grow}
 use Rattle.model.proofs.Shape.{widen-length}
-use Rattle.tables.specs.Lists.{Holds, stops}
+use Rattle.tables.specs.Lists.{Holds}
+use Rattle.lists.specs.Lists.{stops}
 use Rattle.tables.proofs.Arrays.{holds-at, holds-length}
-use Rattle.tables.proofs.Toward.{Toward, toward-start, toward-step, toward-stop, toward-end, within-count, leaves-makes}
+use Rattle.lists.proofs.Toward.{Toward, toward-start, toward-step, toward-stop, toward-end, within-count, leaves-makes}
 use borrow.Author.Needs.{needs}
 use Rattle.procedures.proofs.sides.widen_each.Statement.{statement}
 use Rattle.procedures.proofs.sides.widen_each.Tie as tie

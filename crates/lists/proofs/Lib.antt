@@ -1,0 +1,9 @@
+pub mod Packing
+pub mod Growing
+pub mod Widening
+pub mod Toward
+pub mod Converting
+pub mod Idle
+pub mod Keyed
+pub mod Passing
+pub mod Answering
