@@ -64,8 +64,8 @@ Those S X g = S g × X g
 abbrev pub Equated : Groups → Groups → Groups → Groups
 Equated X Y S g = (S g × ¬ (X g) × ¬ (Y g)) ⊎ Ors (AOrB (Those S X) (Those S Y)) g
 
--- The chosen positions, in rising order.
 module _ {A : Type 0} where
+  -- The chosen positions, in rising order.
   unfoldable pub cut : Bits → List A → List A
   cut [] s = []
   cut (c ∷ k) [] = []

@@ -45,20 +45,23 @@ All (c ∷ cs) = Holds c × All cs
 abbrev pub equate : ℕ → Term → Equation
 equate x t = record { left = x; right = t }
 
--- f(Xi), with symbol 1, and the constant a, with symbol 2.
+-- f(Xi), with symbol 1.
 abbrev pub f-of : ℕ → Term
 f-of i = head 1 (cons (var i) nil)
 
+-- The constant a, with symbol 2.
 abbrev pub a-constant : Term
 a-constant = head 2 nil
 
--- The tables of rows c, d and e.
+-- The table of row c.
 abbrev pub table-c : Entries
 table-c = (t1 ∷ t0 ∷ t0 ∷ []) ∷ (t0 ∷ t1 ∷ t* ∷ []) ∷ (t0 ∷ t* ∷ t1 ∷ []) ∷ []
 
+-- The table of row d.
 abbrev pub table-d : Entries
 table-d = (t0 ∷ t0 ∷ t1 ∷ []) ∷ (t1 ∷ t1 ∷ t* ∷ []) ∷ []
 
+-- The table of row e.
 abbrev pub table-e : Entries
 table-e = (t1 ∷ t1 ∷ t0 ∷ []) ∷ []
 

@@ -179,8 +179,8 @@ zero-if false = t*
 unfoldable pub zeros : Bits → Trits
 zeros m = map zero-if m
 
--- f at each position from i on, n of them, rising, where p holds.
 module _ {A : Type 0} where
+  -- f at each position from i on, n of them, rising, where p holds.
   unfoldable pub rising : (ℕ → Bool) → (ℕ → A) → ℕ → ℕ → List A
   rising p f i zero = []
   rising p f i (suc n) = cond (p i) (f i ∷ rising p f (suc i) n) (rising p f (suc i) n)

@@ -1,4 +1,4 @@
--- Table values: the value of a list of strings and back, the check of a value, and the call that converts groups.
+-- Table values: the value of a list of strings and back, the check of a value, and what a constructor answers.
 use mathlib.Core.Path.{_≡_}
 use mathlib.Core.Bool.{Bool, true, _&&_, cond}
 use mathlib.Core.List.{List, map}
@@ -106,7 +106,7 @@ pub record GoodTable (t : Table) : Type 0 where
   pub list : Good (t .l) (entries-of t)
   pub same : t ≡ table-of (t .l) (entries-of t)
 
--- ---- Calls
+-- ---- Constructors
 
 -- The table of one list, or 2 for a bad width.
 unfoldable pub of-width : ℕ → Entries → Answered

@@ -35,7 +35,10 @@ returns-2 c =
     )
 
 convert-requires : tie.Need-convert-requires
-convert-requires c κs = let w = width-most _ (sym (c .before .before .before .before .before .good-width .ensures) ∙ not-false _ (c .before .before .before .before .if1 .left)) in omega arith
+convert-requires c κs =
+    let at-if1 = c .before .before .before .before in
+    let few = width-most _ (sym (at-if1 .before .good-width .ensures) ∙ not-false _ (at-if1 .if1 .left)) in
+    omega (arith, few)
 
 zero-requires : tie.Need-zero-requires
 zero-requires c κs = search needs
@@ -46,9 +49,21 @@ made-or-full-requires c κs = search needs
 returns-3 : tie.Need-returns-3
 unfolding convert-call
 returns-3 c =
-    let below = sym (c .before .before .before .before .before .before .before .before .all-below .ensures) ∙ not-false _ (c .before .before .before .before .before .before .before .if2 .left) in
-    let told = leaves-makes (c .before .before .before .before .convert .ensures .1 (holds-empty _) below) in
-    rw (c .made-or-full .ensures _ told, c .before .before .before .zero .ensures, sym (c .before .before .before .before .before .before .before .before .before .before .good-width .ensures) ∙ not-false _ (c .before .before .before .before .before .before .before .before .before .if1 .left), below)
+    let at-zero = c .before .before .before in
+    let at-convert = at-zero .before in
+    let at-if2 = at-convert .before .before .before in
+    let at-if1 = at-if2 .before .before in
+    let below = sym (at-if2 .before .all-below .ensures) ∙ not-false _ (at-if2 .if2 .left) in
+    let told = leaves-makes (at-convert .convert .ensures .1 (holds-empty _) below) in
+    rw (
+      c .made-or-full .ensures _ told,
+      at-zero .zero .ensures,
+      sym (at-if1 .before .good-width .ensures) ∙ not-false _ (at-if1 .if1 .left),
+      below,
+    )
 
 pub convert-spec : {M : Type 1} → statement M
-convert-spec = tie.close (tie.spec good-width-requires refused-requires returns all-below-requires refused-requires-2 returns-2 convert-requires zero-requires made-or-full-requires returns-3)
+convert-spec =
+    tie.close
+    (tie.spec good-width-requires refused-requires returns all-below-requires refused-requires-2 returns-2 convert-requires
+    zero-requires made-or-full-requires returns-3)
