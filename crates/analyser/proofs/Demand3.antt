@@ -156,6 +156,14 @@ module _ (side : ℕ) where
           none-follows t k (w ∷ ws) (state (answer-number (next t w .answer)) side k (next t w .table)) refl
           (λ g. refused-kept (side-told side) t (w .left) (w .tokens) g e) good θ θ′ d s
 
+  -- Demand 3 of equations applied in order from a good table, up to the first that is refused: the list is those applied.
+  pub from-described : (t : Table) (ws : List Written) → GoodTable t → (θ θ′ : Bindings)
+      → Describes (groups-of (side-told side) t) θ → Reaches θ (run-events (t .l) (run-from side t 0 ws .applied) ws) θ′
+      → GoodTable (run-from side t 0 ws .table) × Describes (groups-of (side-told side) (run-from side t 0 ws .table)) θ′
+  from-described t ws good θ θ′ d r =
+      let none : run-from side t 0 ws .applied - 0 ≡ run-from side t 0 ws .applied = omega arith in
+      from-follows ws t 0 good θ θ′ d (rw none r)
+
   -- Demand 3 of a run, wherever it stops: its list is the equations that it applied.
   pub run-described : (b q : List ℕ) (t : Table) → read-table Whole b ≡ accepts t → check-equations (t .l) q ≡ Accepted
       → (θ θ′ : Bindings) → Describes (groups-of (side-told side) t) θ
@@ -163,10 +171,8 @@ module _ (side : ℕ) where
       → GoodTable (run-state side b q .table) × Describes (groups-of (side-told side) (run-state side b q .table)) θ′
   unfolding run-state go-on
   run-described b q t reads checked θ θ′ d r =
-      let run = run-from side t 0 (equations-of (first-size q) (second-size q) q) in
-      let is : run-state side b q ≡ run = rw (reads, checked) in
-      let none : run .applied - 0 ≡ run .applied = omega arith in
       let ws = equations-of (first-size q) (second-size q) q in
-      let g = from-follows ws t 0 (read-good Whole b t reads .0) θ θ′ d
-      (rw none (subst (λ (y : Running). Reaches θ (run-events (t .l) (y .applied) ws) θ′) is r)) in
+      let is : run-state side b q ≡ run-from side t 0 ws = rw (reads, checked) in
+      let g = from-described t ws (read-good Whole b t reads .0) θ θ′ d
+      (subst (λ (y : Running). Reaches θ (run-events (t .l) (y .applied) ws) θ′) is r) in
       subst (λ (y : Running). GoodTable (y .table) × Describes (groups-of (side-told side) (y .table)) θ′) (sym is) g

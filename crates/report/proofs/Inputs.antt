@@ -1,0 +1,110 @@
+-- What each way through an input comes to. Assumes nothing.
+use mathlib.Core.Path.{_≡_, refl, sym, ap, _∙_}
+use mathlib.Core.List.{List}
+use Prim.Native.Nat.{ℕ, _+_, _-_, _*_, _≤_, _<_}
+use native.Mathlib.Omega.{arith}
+use borrow.Author.Tests.{le-leb, lt-leb, leb-true}
+use lib.ListN.{length, take, drop, length-drop}
+use lib.Seq.{take-all, sets}
+use Rattle.tables.specs.declared.Table.{Table}
+use Rattle.tables.specs.declared.Refusal.{Refusal}
+use Rattle.tables.specs.declared.Refusal.the-variants as R
+use Rattle.tables.specs.declared.Answer.{Answer}
+use Rattle.tables.specs.declared.Answer.the-variants.{Accepted, Refused}
+use Rattle.tables.specs.declared.Answered.{Answered}
+use Rattle.tables.specs.Refusals.{refusal-number}
+use Rattle.tables.specs.Values.{accepts, GoodTable}
+use Rattle.forms.specs.declared.Extent.the-variants.{Front}
+use Rattle.forms.specs.Tables.{first-size, second-size, table-length, sized, fits, read-table}
+use Rattle.forms.specs.Equations.{Written, equations-of, check-equations}
+use Rattle.forms.proofs.Tests.{reads-passed}
+use Rattle.forms.proofs.Reading.{read-good}
+use Rattle.running.specs.declared.Running.{Running}
+use Rattle.running.specs.States.{none-applied, go-on, run-from}
+use Rattle.report.specs.declared.Pass.the-variants.{Measure, Write}
+use Rattle.report.specs.declared.Reported.{Reported}
+use Rattle.report.specs.Lines.{refused-text}
+use Rattle.report.specs.Passes.{passed}
+use Rattle.report.specs.Reports.{most-input, after-table, equations-in, text-on, run-text, rest-text, input-text}
+use Rattle.report.specs.Reports.{rest-run, input-run, narrowed, told, fitted}
+use Rattle.report.proofs.Telling.{told-fits, told-narrow, fitted-fits, fitted-narrow}
+
+-- ---- Written at once, or measured and then written
+
+pub at-once : (text out : List ℕ) → length text ≤ length out → {out₁ : List ℕ} → out₁ ≡ passed Write out 0 text
+    → out₁ ≡ fitted text out
+unfolding passed
+at-once text out fits w = w ∙ fitted-fits text out fits
+
+module _ (s : Running) (text out : List ℕ) {out₁ : List ℕ} (measured : out₁ ≡ passed Measure out 0 text) where
+  pub kept-measured : out₁ ≡ out
+  unfolding passed
+  kept-measured = measured
+
+  pub both-fit : length text ≤ length out₁ → {out₂ : List ℕ} → out₂ ≡ passed Write out₁ 0 text
+      → (record { state = s; length = length text } ≡ told s text out) × (out₂ ≡ fitted text out)
+  unfolding passed
+  both-fit h w =
+      let fits : length text ≤ length out = omega (arith, h, ap length measured) in
+      (told-fits s text out fits, w ∙ ap (λ (o : List ℕ). sets o 0 text) measured ∙ fitted-fits text out fits)
+
+  pub both-narrow : length out₁ < length text
+      → (record { state = narrowed s; length = 0 } ≡ told s text out) × (out₁ ≡ fitted text out)
+  both-narrow h =
+      let short : length out < length text = omega (arith, h, ap length kept-measured) in
+      (told-narrow s text out short, kept-measured ∙ fitted-narrow text out short)
+
+-- ---- The rest of an input
+
+module _ (t : Table) (q : List ℕ) where
+  pub rest-refused : {r : Refusal} → check-equations (t .l) q ≡ Refused r
+      → (none-applied (refusal-number r) 0 ≡ rest-run t q) × (refused-text (refusal-number r) ≡ rest-text t q)
+  unfolding rest-run rest-text go-on text-on
+  rest-refused e = (rw e, rw e)
+
+  pub rest-goes : check-equations (t .l) q ≡ Accepted
+      → (run-from 0 t 0 (equations-in q) ≡ rest-run t q) × (run-text t (equations-in q) ≡ rest-text t q)
+  unfolding rest-run rest-text go-on text-on
+  rest-goes e = (rw e, rw e)
+
+-- ---- An input
+
+module _ (input : List ℕ) where
+  pub input-long : 4096 < length input
+      → (none-applied (refusal-number R.Torn) 0 ≡ input-run input) × (refused-text (refusal-number R.Torn) ≡ input-text input)
+  unfolding input-run input-text
+  input-long h = (rw (lt-leb (length input) most-input h), rw (lt-leb (length input) most-input h))
+
+  -- the part of the input after the table
+  pub input-rest : (n : ℕ) → n ≡ second-size input
+      → take (length input - (4 + 4 * n)) (drop (4 + 4 * n) input) ≡ after-table input
+  input-rest n e =
+      take-all (length input - (4 + 4 * n)) (drop (4 + 4 * n) input) (omega (arith, length-drop (4 + 4 * n) input))
+      ∙ ap (λ (k : ℕ). drop (4 + 4 * k) input) e
+
+  module _ (few : length input ≤ 4096) {a : Answered} (read : a ≡ read-table Front input) where
+    pub input-refused : {r : Refusal} → a .answer ≡ Refused r
+        → (none-applied (refusal-number r) 0 ≡ input-run input) × (refused-text (refusal-number r) ≡ input-text input)
+    unfolding input-run input-text go-on text-on
+    input-refused e =
+        let f = ap (λ (b : Answered). b .answer) (sym read) ∙ e in
+        (rw (le-leb (length input) most-input few, f), rw (le-leb (length input) most-input few, f))
+
+    module _ (e : a .answer ≡ Accepted) where
+      reads : read-table Front input ≡ accepts (a .table)
+      reads = sym read ∙ λ i. record { answer = e i; table = a .table }
+
+      pub input-good : GoodTable (a .table)
+      input-good = read-good Front input (a .table) reads .0
+
+      -- the table's form is there
+      pub input-room : 4 + 4 * second-size input ≤ length input
+      unfolding fits
+      input-room = leb-true (table-length (second-size input)) (length input)
+          (reads-passed Front input (accepts (a .table)) refl reads .0 .long)
+
+      pub input-goes : (rest-run (a .table) (after-table input) ≡ input-run input)
+          × (rest-text (a .table) (after-table input) ≡ input-text input)
+      unfolding input-run input-text go-on text-on
+      input-goes =
+          (rw (le-leb (length input) most-input few, reads), rw (le-leb (length input) most-input few, reads))

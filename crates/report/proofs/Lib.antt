@@ -1,0 +1,5 @@
+pub mod Telling
+pub mod Equations
+pub mod Inputs
+pub mod Within
+pub mod Demand3

@@ -1,0 +1,41 @@
+-- The text that was written lies within the output. Assumes nothing.
+use mathlib.Core.Path.{_≡_, refl, sym, ap, _∙_}
+use mathlib.Core.Bool.{Bool, true, false, cond}
+use mathlib.Core.List.{List, _++_}
+use Prim.Native.Nat.{ℕ, _≤_}
+use native.Mathlib.Omega.{arith}
+use borrow.Author.Tests.{leb-true}
+use lib.ListN.{length, take, drop, length-append, length-drop}
+use lib.Seq.{length-take-le}
+use Rattle.running.specs.declared.Running.{Running}
+use Rattle.report.specs.declared.Reported.{Reported}
+use Rattle.report.specs.Reports.{narrowed, fits-in, told, fitted}
+
+told-within : (s : Running) (text out : List ℕ) → told s text out .length ≤ length out
+unfolding told
+told-within s text out = go (fits-in text out) refl
+  where
+    go : (b : Bool) → fits-in text out ≡ b
+        → cond {A = Reported} b (record { state = s; length = length text }) (record { state = narrowed s; length = 0 }) .length
+        ≤ length out
+    go true e = leb-true (length text) (length out) e
+    go false e = omega arith
+
+-- the bytes of an output are as many as before
+fitted-length : (text out : List ℕ) → length (fitted text out) ≡ length out
+unfolding fitted
+fitted-length text out = go (fits-in text out) refl
+  where
+    go : (b : Bool) → fits-in text out ≡ b → length (cond b (text ++ drop (length text) out) out) ≡ length out
+    go true e =
+        let fits = leb-true (length text) (length out) e in
+        length-append text (drop (length text) out) ∙ omega (arith, fits, length-drop (length text) out)
+    go false e = refl
+
+-- what a report answers counts bytes at the start of the output
+pub report-within : (s : Running) (text out : List ℕ) {r : Reported} {out′ : List ℕ} → r ≡ told s text out
+    → out′ ≡ fitted text out → (r .length ≤ length out′) × (r .length ≡ length (take (r .length) out′))
+report-within s text out {r} {out′} e f =
+    let fits : r .length ≤ length out′ =
+    omega (arith, ap (λ (x : Reported). x .length) e, told-within s text out, ap length f, fitted-length text out) in
+    (fits, sym (length-take-le (r .length) out′ fits))

@@ -1,0 +1,123 @@
+-- The report of an input (01, "The program `sharerun`"): a positive table, then equations; the run of them, its text, and what
+-- is written into a lent output.
+use mathlib.Core.Bool.{Bool, cond}
+use mathlib.Core.List.{List, [], _∷_, _++_}
+use Prim.Native.Nat.{ℕ, _+_}
+use lib.Dec.{leb, eqb}
+use lib.ListN.{length, drop}
+use Rattle.model.specs.Tables.{positive}
+use Rattle.tables.specs.declared.Table.{Table}
+use Rattle.tables.specs.declared.Refusal.the-variants as R
+use Rattle.tables.specs.declared.Answer.{Answer}
+use Rattle.tables.specs.declared.Answer.the-variants.{Accepted, Refused}
+use Rattle.tables.specs.Refusals.{refusal-number, answer-number}
+use Rattle.sharing.specs.Calls.{equation-call}
+use Rattle.forms.specs.declared.Extent.the-variants.{Front}
+use Rattle.forms.specs.Tables.{first-size, second-size, table-length, read-table}
+use Rattle.forms.specs.Equations.{Written, equations-of, check-equations}
+use Rattle.running.specs.declared.Running.{Running}
+use Rattle.running.specs.States.{none-applied, go-on, run-from}
+use Rattle.report.specs.declared.Reported.{Reported}
+use Rattle.report.specs.Lines.{first-text, equation-text, refused-text}
+
+-- ---- The input
+
+-- At most 4096 bytes of input.
+abbrev pub most-input : ℕ
+most-input = 4096
+
+-- The bytes after the table.
+abbrev pub after-table : List ℕ → List ℕ
+after-table input = drop (table-length (second-size input)) input
+
+-- The equations of a form.
+abbrev pub equations-in : List ℕ → List Written
+equations-in q = equations-of (first-size q) (second-size q) q
+
+-- ---- The text
+
+-- The second text where accepted, else the first.
+unfoldable pub text-on : Answer → List ℕ → List ℕ → List ℕ
+text-on Accepted stop text = text
+text-on (Refused r) stop text = stop
+
+-- What is said of the equations from the one numbered k on, from table t: the first that is refused ends it.
+unfoldable pub text-from : Table → ℕ → List Written → List ℕ
+text-from t k [] = []
+text-from t k (w ∷ ws) =
+    let a = equation-call positive t (w .left) (w .tokens) in
+    equation-text k (a .answer) (a .table) ++ text-on (a .answer) [] (text-from (a .table) (k + 1) ws)
+
+-- The text of a run whose input passed its checks.
+unfoldable pub run-text : Table → List Written → List ℕ
+run-text t ws = first-text t ++ text-from t 1 ws
+
+-- The text of a table that was read and the bytes after it.
+unfoldable pub rest-text : Table → List ℕ → List ℕ
+rest-text t q =
+    let c = check-equations (t .l) q in
+    text-on c (refused-text (answer-number c)) (run-text t (equations-in q))
+
+-- The text of an input: above 4096 bytes is 1 before any other check; then the table, which more may follow; then the
+-- equations, which are exactly the rest.
+unfoldable pub input-text : List ℕ → List ℕ
+input-text input =
+    let a = read-table Front input in
+    cond (leb (length input) most-input)
+    (text-on (a .answer) (refused-text (answer-number (a .answer))) (rest-text (a .table) (after-table input)))
+    (refused-text (refusal-number R.Torn))
+
+-- ---- The run
+
+-- The run of a table that was read and the bytes after it, on the positive side. A refusal has applied none.
+unfoldable pub rest-run : Table → List ℕ → Running
+rest-run t q =
+    let c = check-equations (t .l) q in
+    go-on c (none-applied (answer-number c) 0) (run-from 0 t 0 (equations-in q))
+
+-- The run of an input.
+unfoldable pub input-run : List ℕ → Running
+input-run input =
+    let a = read-table Front input in
+    cond (leb (length input) most-input)
+    (go-on (a .answer) (none-applied (answer-number (a .answer)) 0) (rest-run (a .table) (after-table input)))
+    (none-applied (refusal-number R.Torn) 0)
+
+-- ---- What is returned, and what is written
+
+-- Where the text does not fit, an accepted run is refused 9 and has applied none; a refused one, full too, stays what it was.
+unfoldable pub narrowed : Running → Running
+narrowed s = cond (eqb (s .code) 0) (none-applied (refusal-number R.Narrow) 0) s
+
+-- The text fits into the output.
+abbrev pub fits-in : List ℕ → List ℕ → Bool
+fits-in text out = leb (length text) (length out)
+
+-- What is returned of a run and its text: the state of the run, and the length of what was written.
+unfoldable pub told : Running → List ℕ → List ℕ → Reported
+told s text out =
+    cond (fits-in text out) (record { state = s; length = length text }) (record { state = narrowed s; length = 0 })
+
+-- The bytes of the output: the text, and past it what they held; where it does not fit nothing is written.
+unfoldable pub fitted : List ℕ → List ℕ → List ℕ
+fitted text out = cond (fits-in text out) (text ++ drop (length text) out) out
+
+-- What is returned where an input is refused.
+abbrev pub refused-report : ℕ → List ℕ → Reported
+refused-report code out = told (none-applied code 0) (refused-text code) out
+
+-- What is returned of a run whose input passed its checks.
+abbrev pub run-report : Table → List Written → List ℕ → Reported
+run-report t ws out = told (run-from 0 t 0 ws) (run-text t ws) out
+
+-- What is returned of a table that was read and the bytes after it.
+abbrev pub rest-report : Table → List ℕ → List ℕ → Reported
+rest-report t q out = told (rest-run t q) (rest-text t q) out
+
+-- What is returned of an input.
+abbrev pub report-of : List ℕ → List ℕ → Reported
+report-of input out = told (input-run input) (input-text input) out
+
+-- The bytes of the output afterwards.
+abbrev pub report-bytes : List ℕ → List ℕ → List ℕ
+report-bytes input out = fitted (input-text input) out

@@ -1,0 +1,13 @@
+// Reads a positive table and then equations on standard input, and prints the table and what each equation makes of it.
+use libc::STDIN_FILENO;
+use libc::STDOUT_FILENO;
+
+// One byte more than an input may have: what follows it cannot change the answer. No text is longer than 65 tables of 256 lines of
+// 17 bytes, each under a line of at most 25, and 286000 bytes hold them (report: run-most).
+fn main() {
+    let mut input = [0u8; 4097];
+    let mut text = [0u8; 286000];
+    let n = io::read_full(STDIN_FILENO, &mut input);
+    let r = report::report(&input[..n], &mut text);
+    io::write_all(STDOUT_FILENO, &text[..r.length]);
+}

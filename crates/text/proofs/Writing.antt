@@ -1,0 +1,167 @@
+-- Texts: their lengths, and one more byte, entry or part of a line written. Assumes nothing.
+use mathlib.Core.Path.{_≡_, refl, sym, ap, _∙_}
+use mathlib.Core.Bool.{Bool, true, false, cond}
+use mathlib.Core.List.{List, [], _∷_, _++_}
+use Prim.Native.Nat.{ℕ, zero, suc, _+_, _-_, _*_, _/_, _%_, _≤_, _<_}
+use native.Mathlib.Nat.{zero-mul, suc-mul}
+use native.Mathlib.Numerals.{add-one}
+use native.Mathlib.Omega.{arith}
+use borrow.Author.Tests.{lt-ltb, le-ltb}
+use lib.Dec.{ltb}
+use lib.ListN.{length, getD, drop, set, length-append, drop-of-length-le}
+use lib.Seq.{drop-cons, sets, length-sets}
+use Rattle.model.specs.Strings.{Trits}
+use Rattle.model.specs.Growth.{Entries, limit}
+use Rattle.model.specs.Tables.{Wide}
+use Rattle.words.specs.declared.Entry.{Entry}
+use Rattle.words.specs.Words.{string, trit-of}
+use Rattle.words.proofs.Codec.{string-length, string-of-word}
+use Rattle.tables.specs.declared.Table.{Table}
+use Rattle.tables.specs.Values.{entries-of, GoodTable}
+use Rattle.tables.proofs.Arrays.{holds-at, holds-length}
+use Rattle.tables.proofs.Checking.{good-holds}
+use Rattle.codec.proofs.Laws.{sets-append}
+use Rattle.text.specs.Text.{newline, digit, decimal, line, character, entry-text, entries-text}
+
+-- ---- Words
+
+-- a turn of a copy: what is left to copy is one byte shorter
+pub copy-turn : (out word : List ℕ) (at i : ℕ) → i < length word
+    → sets (set out (at + i) (getD word i 0)) (at + (i + 1)) (drop (i + 1) word) ≡ sets out (at + i) (drop i word)
+copy-turn out word at i lt =
+    let e : at + (i + 1) ≡ suc (at + i) = omega arith in
+    rw (e, add-one i) (sym (ap (sets out (at + i)) (drop-cons word i 0 lt)))
+
+pub copy-end : (out word : List ℕ) (at i : ℕ) → length word ≤ i → out ≡ sets out (at + i) (drop i word)
+copy-end out word at i le = sym (ap (sets out (at + i)) (drop-of-length-le word {i = i} le))
+
+-- ---- Numbers
+
+module _ (n : ℕ) where
+  pub one-digit : n < 10 → decimal n ≡ digit n ∷ []
+  unfolding decimal
+  one-digit h = rw (lt-ltb n 10 h)
+
+  pub two-digits : 10 ≤ n → n < 100 → decimal n ≡ digit (n / 10) ∷ digit (n % 10) ∷ []
+  unfolding decimal
+  two-digits g h = rw (le-ltb n 10 g, lt-ltb n 100 h)
+
+  pub three-digits : 100 ≤ n → decimal n ≡ digit (n / 100) ∷ digit (n / 10 % 10) ∷ digit (n % 10) ∷ []
+  unfolding decimal
+  three-digits g = rw (le-ltb n 10 (omega arith), le-ltb n 100 g)
+
+  pub decimal-most : length (decimal n) ≤ 3
+  unfolding decimal
+  decimal-most = go (ltb n 10) (ltb n 100)
+    where
+      go : (a b : Bool) → length (cond a (digit n ∷ []) (cond b (digit (n / 10) ∷ digit (n % 10) ∷ [])
+          (digit (n / 100) ∷ digit (n / 10 % 10) ∷ digit (n % 10) ∷ []))) ≤ 3
+      go true b = omega arith
+      go false true = omega arith
+      go false false = omega arith
+
+pub line-length : (v w : List ℕ) (a b : ℕ)
+    → length (line v a w b) ≡ length v + (length (decimal a) + (length w + (length (decimal b) + 1)))
+unfolding line
+line-length v w a b =
+    simp length-append
+
+-- the parts of a line written one after another
+pub line-written : (out v w : List ℕ) (a b at : ℕ) {first second third end : ℕ} → first ≡ at + length v
+    → second ≡ first + length (decimal a) → third ≡ second + length w → end ≡ third + length (decimal b)
+    → set (sets (sets (sets (sets out at v) first (decimal a)) second w) third (decimal b)) end newline
+    ≡ sets out at (line v a w b)
+unfolding line
+line-written out v w a b at {first} {second} {third} {end} e₁ e₂ e₃ e₄ =
+    rw (e₄, e₃, e₂, e₁)
+    (sym (sets-append v _ out at ∙ sets-append (decimal a) _ (sets out at v) _ ∙ sets-append w _ _ _
+    ∙ sets-append (decimal b) _ _ _))
+
+-- ---- Entries
+
+pub fixed-zero : (c v : ℕ) → (c ≡ 0 → ⊥) → v ≡ 0 → 48 ≡ character (trit-of c v)
+fixed-zero zero v ne e = absurd (ne refl)
+fixed-zero (suc c) zero ne e = refl
+fixed-zero (suc c) (suc v) ne e = absurd (omega arith)
+
+pub fixed-one : (c v : ℕ) → (c ≡ 0 → ⊥) → (v ≡ 0 → ⊥) → 49 ≡ character (trit-of c v)
+fixed-one zero v ne f = absurd (ne refl)
+fixed-one (suc c) zero ne f = absurd (f refl)
+fixed-one (suc c) (suc v) ne f = refl
+
+pub entry-length : (s : Trits) → length (entry-text s) ≡ length s + 1
+unfolding entry-text
+entry-length [] = refl
+entry-length (t ∷ s) = omega (arith, entry-length s)
+
+-- a turn of an entry: its next character is written
+pub entry-turn : (out : List ℕ) (i end c v x : ℕ) → i < end → x ≡ character (trit-of (c % 2) (v % 2))
+    → sets (set out i x) (i + 1) (entry-text (string (end - (i + 1)) (record { care = c / 2; value = v / 2 })))
+    ≡ sets out i (entry-text (string (end - i) (record { care = c; value = v })))
+unfolding entry-text string
+entry-turn out i end c v x lt e =
+    let d : end - i ≡ suc (end - (i + 1)) = omega arith in
+    rw (d, e, add-one i)
+
+pub entry-end : (out : List ℕ) (i end c v : ℕ) → i ≡ end
+    → set out end newline ≡ sets out i (entry-text (string (end - i) (record { care = c; value = v })))
+unfolding entry-text string
+entry-end out i end c v e =
+    let d : end - i ≡ 0 = omega arith in
+    rw (d, e)
+
+pub good-few : {t : Table} → GoodTable t → t .n ≤ limit
+good-few g = let h = good-holds g in omega (arith, h .count, h .good .few)
+
+module _ {t : Table} (good : GoodTable t) (i : ℕ) (lt : i < t .n) where
+  -- the entry at an index
+  abbrev here : Trits
+  here = getD (entries-of t) i []
+
+  pub entries-from : drop i (entries-of t) ≡ here ∷ drop (i + 1) (entries-of t)
+  entries-from =
+      drop-cons (entries-of t) i [] (omega (arith, lt, good-holds good .count))
+      ∙ ap (λ (k : ℕ). here ∷ drop k (entries-of t)) (sym (add-one i))
+
+  -- the words at that index are its words
+  pub entry-here : string (t .l) (record { care = getD (t .care) i 0; value = getD (t .value) i 0 }) ≡ here
+  entry-here =
+      string-of-word (t .l) _ here (holds-length (good-holds good) i lt) (holds-at (good-holds good) i lt)
+
+  -- what is left to write is one line longer than after it
+  pub left-length : length (entries-text (drop i (entries-of t)))
+      ≡ (t .l + 1) + length (entries-text (drop (i + 1) (entries-of t)))
+  unfolding entries-text
+  left-length =
+      rw entries-from (length-append (entry-text here) (entries-text (drop (i + 1) (entries-of t)))
+      ∙ ap (λ (k : ℕ). k + length (entries-text (drop (i + 1) (entries-of t))))
+      (entry-length here ∙ ap (λ (k : ℕ). k + 1) (holds-length (good-holds good) i lt)))
+
+  pub entries-turn : (out : List ℕ) (at : ℕ) {out′ : List ℕ}
+      → out′ ≡ sets out at (entry-text (string (t .l) (record { care = getD (t .care) i 0; value = getD (t .value) i 0 })))
+      → sets out′ (at + (t .l + 1)) (entries-text (drop (i + 1) (entries-of t)))
+      ≡ sets out at (entries-text (drop i (entries-of t)))
+  unfolding entries-text
+  entries-turn out at e =
+      let long : length (entry-text here) ≡ t .l + 1 =
+      entry-length here ∙ ap (λ (k : ℕ). k + 1) (holds-length (good-holds good) i lt) in
+      rw (e, entry-here, entries-from, ← long)
+      (sym (sets-append (entry-text here) (entries-text (drop (i + 1) (entries-of t))) out at))
+
+pub entries-end : {t : Table} → GoodTable t → (i : ℕ) → t .n ≤ i → entries-text (drop i (entries-of t)) ≡ []
+unfolding entries-text
+entries-end {t} good i le =
+    ap entries-text (drop-of-length-le (entries-of t) {i = i} (omega (arith, le, good-holds good .count)))
+
+-- the length of all entries
+pub entries-length : {t : Table} → GoodTable t → length (entries-text (entries-of t)) ≡ t .n * (t .l + 1)
+unfolding entries-text Wide
+entries-length {t} good =
+    let h = good-holds good in
+    go (entries-of t) (h .good .wide) ∙ ap (λ (k : ℕ). k * (t .l + 1)) (sym (h .count))
+  where
+    go : (τ : Entries) → Wide (t .l) τ → length (entries-text τ) ≡ length τ * (t .l + 1)
+    go [] w = sym (zero-mul (t .l + 1))
+    go (s ∷ τ) w =
+        length-append (entry-text s) (entries-text τ)
+        ∙ omega (arith, entry-length s, w .0, go τ (w .1), suc-mul (length τ) (t .l + 1))
