@@ -1,12 +1,20 @@
-# make test      the gate: every call and example through the static library, the plain Rust tests, then every proof and
-#                must-fail edit
+# make run       the program sharerun on the example, from a readable file to readable tables
+# make test      the gate: every proof and must-fail edit, then every test of what was proved
 # make calls     compares every exported call with plain Rust, then again between fences and under the address sanitizer
+# make runs      sharerun on stored cases and against plain Rust
+# make tools     the text front end
 # make examples  the C interface: header, refusals and examples, in place and installed
 # make bench     times ours against plain Rust and prints ratios
 # make install   the header, the library, its pkg-config file and the examples, under PREFIX
-.PHONY: test bench same calls stack fmt library examples install
+.PHONY: run test plain bench same calls runs tools stack fmt library examples install
+
+SHELL := bash
+.SHELLFLAGS := -o pipefail -c
 
 LIBRARY := $(CURDIR)/target/staticlib
+ARCHIVE := $(LIBRARY)/libanalyser.a
+PROGRAM := target/bin/sharerun
+CRATES := crates.txt $(shell find crates -type f)
 FOLDERS := CARGO_TARGET_DIR=$(CURDIR)/target/cargo SHARING_LIB_DIR=$(LIBRARY)
 CARGO := $(FOLDERS) cargo
 BENCH := $(CARGO) run --quiet --release --manifest-path bench/Cargo.toml --
@@ -17,9 +25,14 @@ PREFIX ?= /usr/local
 BASE := $(abspath $(PREFIX))
 INTO := $(DESTDIR)$(BASE)
 
-test: same calls examples stack
+run: $(PROGRAM) target/tools/sharetext
+	@tools/show examples/parish.txt
+
+test:
+	@tests/all
+
+plain:
 	@$(CARGO) test --quiet --manifest-path reference/Cargo.toml
-	@rt ci
 
 same:
 	@rt staticlib timing
@@ -29,24 +42,40 @@ calls: library
 	@$(CARGO) run --quiet --release --manifest-path tests/calls/Cargo.toml
 	@$(FOLDERS) tests/sanitized
 
+runs: $(PROGRAM)
+	@$(CARGO) run --quiet --release --manifest-path tests/runs/Cargo.toml
+
+tools: library $(PROGRAM)
+	@tests/tools
+
 stack:
 	@tests/stack
 
-library:
-	@rt staticlib analyser
+library: $(ARCHIVE)
+
+# What is proved and unchanged is not proved again; of what rt prints only its own lines are shown.
+$(ARCHIVE): $(CRATES)
+	@rt staticlib analyser | grep '^rt:'
+
+$(PROGRAM): $(CRATES)
+	@rt check sharerun | grep '^rt:'
+	@touch $@
+
+target/tools/sharetext: tools/sharetext.c include/sharing.h $(ARCHIVE)
+	@mkdir -p $(@D)
+	@cc -std=c99 -O2 -Wall -Wextra -Iinclude $< $(ARCHIVE) -o $@
 
 examples: library
 	@tests/c
 	@tests/install
 
-# BUILT=1 says that the library is up to date.
-install: $(if $(BUILT),,library)
+install: library
 	@install -d $(INTO)/include $(INTO)/lib/pkgconfig $(INTO)/share/doc/sharing/examples
 	@install -m 644 include/sharing.h $(INTO)/include
-	@install -m 644 $(LIBRARY)/libanalyser.a $(INTO)/lib/libsharing.a
+	@install -m 644 $(ARCHIVE) $(INTO)/lib/libsharing.a
 	@sed -e 's|@PREFIX@|$(BASE)|' -e 's|@VERSION@|$(VERSION)|' sharing.pc.in >$(INTO)/lib/pkgconfig/sharing.pc
 	@chmod 644 $(INTO)/lib/pkgconfig/sharing.pc
-	@install -m 644 $(wildcard examples/*.c examples/*.out) $(INTO)/share/doc/sharing/examples
+	@install -m 644 $(wildcard examples/*.c examples/*.out examples/*.txt) $(INTO)/share/doc/sharing/examples
 
 bench:
 	@rt staticlib timing
@@ -57,3 +86,4 @@ fmt:
 	@cd reference && cargo fmt
 	@cd bench && cargo fmt
 	@cd tests/calls && cargo fmt
+	@cd tests/runs && cargo fmt
