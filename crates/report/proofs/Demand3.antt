@@ -1,9 +1,8 @@
 -- Demand 3 of a report (01, "Bindings and runs"): the run that it tells, wherever it stops. Assumes nothing.
-use mathlib.Core.Path.{_≡_, refl, sym, ap, subst, _∙_}
+use mathlib.Core.Path.{_≡_, refl, sym, subst, _∙_}
 use mathlib.Core.Bool.{Bool, true, false, cond}
 use mathlib.Core.List.{List}
 use Prim.Native.Nat.{ℕ, _≤_}
-use native.Mathlib.Omega.{arith}
 use borrow.Author.Tests.{le-leb}
 use lib.Dec.{eqb}
 use lib.ListN.{length}
@@ -25,7 +24,7 @@ use Rattle.running.specs.declared.Running.{Running}
 use Rattle.running.specs.States.{none-applied, go-on, run-from}
 use Rattle.analyser.specs.Demand3.{run-events}
 use Rattle.analyser.proofs.Demand3.{from-described}
-use Rattle.report.specs.declared.Reported.{Reported}
+use Rattle.run_text.specs.declared.Reported.{Reported}
 use Rattle.report.specs.Reports.{most-input, after-table, equations-in, rest-run, input-run, input-text, narrowed, fits-in}
 use Rattle.report.specs.Reports.{told, report-of}
 
@@ -56,7 +55,8 @@ unfolding input-run rest-run go-on side-told
 report-described input out t few reads checked other θ θ′ d r =
     let ws = equations-in (after-table input) in
     let run : input-run input ≡ run-from 0 t 0 ws = rw (le-leb (length input) most-input few, reads, checked) in
-    let is : report-of input out .state ≡ run-from 0 t 0 ws = told-state (input-run input) (input-text input) out other ∙ run in
+    let is : report-of input out .state ≡ run-from 0 t 0 ws = told-state (input-run input) (input-text input) out other
+    ∙ run in
     let g = from-described 0 t ws (read-good Front input t reads .0) θ θ′ d
     (subst (λ (y : Running). Reaches θ (run-events (t .l) (y .applied) ws) θ′) is r) in
     subst (λ (y : Running). GoodTable (y .table) × Describes (groups-of positive (y .table)) θ′) (sym is) g

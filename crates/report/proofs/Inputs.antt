@@ -9,25 +9,23 @@ use lib.Seq.{take-all, sets}
 use Rattle.tables.specs.declared.Table.{Table}
 use Rattle.tables.specs.declared.Refusal.{Refusal}
 use Rattle.tables.specs.declared.Refusal.the-variants as R
-use Rattle.tables.specs.declared.Answer.{Answer}
 use Rattle.tables.specs.declared.Answer.the-variants.{Accepted, Refused}
 use Rattle.tables.specs.declared.Answered.{Answered}
 use Rattle.tables.specs.Refusals.{refusal-number}
 use Rattle.tables.specs.Values.{accepts, GoodTable}
 use Rattle.forms.specs.declared.Extent.the-variants.{Front}
-use Rattle.forms.specs.Tables.{first-size, second-size, table-length, sized, fits, read-table}
-use Rattle.forms.specs.Equations.{Written, equations-of, check-equations}
+use Rattle.forms.specs.Tables.{second-size, table-length, fits, read-table}
+use Rattle.forms.specs.Equations.{check-equations}
 use Rattle.forms.proofs.Tests.{reads-passed}
 use Rattle.forms.proofs.Reading.{read-good}
 use Rattle.running.specs.declared.Running.{Running}
 use Rattle.running.specs.States.{none-applied, go-on, run-from}
-use Rattle.report.specs.declared.Pass.the-variants.{Measure, Write}
-use Rattle.report.specs.declared.Reported.{Reported}
-use Rattle.report.specs.Lines.{refused-text}
-use Rattle.report.specs.Passes.{passed}
-use Rattle.report.specs.Reports.{most-input, after-table, equations-in, text-on, run-text, rest-text, input-text}
+use Rattle.run_text.specs.declared.Pass.the-variants.{Measure, Write}
+use Rattle.run_text.specs.Passes.{passed}
+use Rattle.report.specs.Reports.{most-input, after-table, equations-in, refused-text, rest-text, input-text}
+use Rattle.run_text.specs.Runs.{text-on, run-text}
 use Rattle.report.specs.Reports.{rest-run, input-run, narrowed, told, fitted}
-use Rattle.report.proofs.Telling.{told-fits, told-narrow, fitted-fits, fitted-narrow}
+use Rattle.report.proofs.Fitting.{told-fits, told-narrow, fitted-fits, fitted-narrow}
 
 -- ---- Written at once, or measured and then written
 
@@ -71,7 +69,8 @@ module _ (t : Table) (q : List ℕ) where
 
 module _ (input : List ℕ) where
   pub input-long : 4096 < length input
-      → (none-applied (refusal-number R.Torn) 0 ≡ input-run input) × (refused-text (refusal-number R.Torn) ≡ input-text input)
+      → (none-applied (refusal-number R.Torn) 0 ≡ input-run input) × (refused-text (refusal-number R.Torn) ≡ input-text
+      input)
   unfolding input-run input-text
   input-long h = (rw (lt-leb (length input) most-input h), rw (lt-leb (length input) most-input h))
 

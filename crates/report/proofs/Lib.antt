@@ -1,5 +1,4 @@
-pub mod Telling
-pub mod Equations
+pub mod Fitting
 pub mod Inputs
 pub mod Within
 pub mod Demand3

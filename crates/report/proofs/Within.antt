@@ -8,7 +8,7 @@ use borrow.Author.Tests.{leb-true}
 use lib.ListN.{length, take, drop, length-append, length-drop}
 use lib.Seq.{length-take-le}
 use Rattle.running.specs.declared.Running.{Running}
-use Rattle.report.specs.declared.Reported.{Reported}
+use Rattle.run_text.specs.declared.Reported.{Reported}
 use Rattle.report.specs.Reports.{narrowed, fits-in, told, fitted}
 
 told-within : (s : Running) (text out : List ℕ) → told s text out .length ≤ length out
@@ -16,7 +16,8 @@ unfolding told
 told-within s text out = go (fits-in text out) refl
   where
     go : (b : Bool) → fits-in text out ≡ b
-        → cond {A = Reported} b (record { state = s; length = length text }) (record { state = narrowed s; length = 0 }) .length
+        → cond {A = Reported} b (record { state = s; length = length text }) (record { state = narrowed s; length = 0 })
+        .length
         ≤ length out
     go true e = leb-true (length text) (length out) e
     go false e = omega arith

@@ -2,23 +2,21 @@
 -- is written into a lent output.
 use mathlib.Core.Bool.{Bool, cond}
 use mathlib.Core.List.{List, [], _∷_, _++_}
-use Prim.Native.Nat.{ℕ, _+_}
+use Prim.Native.Nat.{ℕ}
 use lib.Dec.{leb, eqb}
 use lib.ListN.{length, drop}
-use Rattle.model.specs.Tables.{positive}
 use Rattle.tables.specs.declared.Table.{Table}
 use Rattle.tables.specs.declared.Refusal.the-variants as R
-use Rattle.tables.specs.declared.Answer.{Answer}
-use Rattle.tables.specs.declared.Answer.the-variants.{Accepted, Refused}
 use Rattle.tables.specs.Refusals.{refusal-number, answer-number}
-use Rattle.sharing.specs.Calls.{equation-call}
 use Rattle.forms.specs.declared.Extent.the-variants.{Front}
 use Rattle.forms.specs.Tables.{first-size, second-size, table-length, read-table}
 use Rattle.forms.specs.Equations.{Written, equations-of, check-equations}
 use Rattle.running.specs.declared.Running.{Running}
 use Rattle.running.specs.States.{none-applied, go-on, run-from}
-use Rattle.report.specs.declared.Reported.{Reported}
-use Rattle.report.specs.Lines.{first-text, equation-text, refused-text}
+use Rattle.run_text.specs.declared.Reported.{Reported}
+use Rattle.text.specs.Text.{newline, decimal}
+use Rattle.run_text.specs.Lines.{refused}
+use Rattle.run_text.specs.Runs.{text-on, run-text}
 
 -- ---- The input
 
@@ -36,21 +34,9 @@ equations-in q = equations-of (first-size q) (second-size q) q
 
 -- ---- The text
 
--- The second text where accepted, else the first.
-unfoldable pub text-on : Answer → List ℕ → List ℕ → List ℕ
-text-on Accepted stop text = text
-text-on (Refused r) stop text = stop
-
--- What is said of the equations from the one numbered k on, from table t: the first that is refused ends it.
-unfoldable pub text-from : Table → ℕ → List Written → List ℕ
-text-from t k [] = []
-text-from t k (w ∷ ws) =
-    let a = equation-call positive t (w .left) (w .tokens) in
-    equation-text k (a .answer) (a .table) ++ text-on (a .answer) [] (text-from (a .table) (k + 1) ws)
-
--- The text of a run whose input passed its checks.
-unfoldable pub run-text : Table → List Written → List ℕ
-run-text t ws = first-text t ++ text-from t 1 ws
+-- Of an input that is refused: only the number.
+unfoldable pub refused-text : ℕ → List ℕ
+refused-text code = refused ++ (decimal code ++ (newline ∷ []))
 
 -- The text of a table that was read and the bytes after it.
 unfoldable pub rest-text : Table → List ℕ → List ℕ

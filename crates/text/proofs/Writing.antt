@@ -1,7 +1,7 @@
 -- Texts: their lengths, and one more byte, entry or part of a line written. Assumes nothing.
 use mathlib.Core.Path.{_≡_, refl, sym, ap, _∙_}
 use mathlib.Core.Bool.{Bool, true, false, cond}
-use mathlib.Core.List.{List, [], _∷_, _++_}
+use mathlib.Core.List.{List, [], _∷_}
 use Prim.Native.Nat.{ℕ, zero, suc, _+_, _-_, _*_, _/_, _%_, _≤_, _<_}
 use native.Mathlib.Nat.{zero-mul, suc-mul}
 use native.Mathlib.Numerals.{add-one}
@@ -9,13 +9,12 @@ use native.Mathlib.Omega.{arith}
 use borrow.Author.Tests.{lt-ltb, le-ltb}
 use lib.Dec.{ltb}
 use lib.ListN.{length, getD, drop, set, length-append, drop-of-length-le}
-use lib.Seq.{drop-cons, sets, length-sets}
+use lib.Seq.{drop-cons, sets}
 use Rattle.model.specs.Strings.{Trits}
 use Rattle.model.specs.Growth.{Entries, limit}
 use Rattle.model.specs.Tables.{Wide}
-use Rattle.words.specs.declared.Entry.{Entry}
 use Rattle.words.specs.Words.{string, trit-of}
-use Rattle.words.proofs.Codec.{string-length, string-of-word}
+use Rattle.words.proofs.Codec.{string-of-word}
 use Rattle.tables.specs.declared.Table.{Table}
 use Rattle.tables.specs.Values.{entries-of, GoodTable}
 use Rattle.tables.proofs.Arrays.{holds-at, holds-length}

@@ -1,4 +1,4 @@
-use mathlib.Core.Path.{_≡_, ap, _∙_}
+use mathlib.Core.Path.{ap, _∙_}
 use Prim.Native.Nat.{_≤_, _<_}
 use native.Mathlib.Omega.{arith}
 use lib.ListN.{length, length-set}
@@ -7,9 +7,10 @@ use Rattle.text.specs.Text.{decimal}
 use Rattle.text.proofs.Writing.{decimal-most}
 use Rattle.running.specs.declared.Running.{Running}
 use Rattle.running.specs.States.{none-applied}
-use Rattle.report.specs.Lines.{refused-text}
-use Rattle.report.proofs.Telling.{code-small, refused-length, refused-written, told-fits, told-narrow}
-use Rattle.report.proofs.Telling.{fitted-fits, fitted-narrow, narrowed-none}
+use Rattle.report.specs.Reports.{refused-text}
+use Rattle.run_text.proofs.Telling.{code-small}
+use Rattle.report.proofs.Fitting.{refused-length, refused-written, told-fits, told-narrow}
+use Rattle.report.proofs.Fitting.{fitted-fits, fitted-narrow, narrowed-none}
 use borrow.Author.Needs.{needs}
 use Rattle.report.proofs.refuse.Statement.{statement}
 use Rattle.report.proofs.refuse.Tie as tie
@@ -38,10 +39,18 @@ returns c =
     let at-start = at-refusal-number .before .before in
     let long = refused-length (refusal-number (at-start .args .r)) in
     let short : length (at-start .args .out .now) < length (refused-text (refusal-number (at-start .args .r))) =
-    omega (arith, long, c .if1 .taken, ap length (ap decimal (at-refusal-number .refusal-number .ensures)), at-digits .digits .ensures) in (
+    omega (
+      arith,
+      long,
+      c .if1 .taken,
+      ap length (ap decimal (at-refusal-number .refusal-number .ensures)),
+      at-digits
+          .digits .ensures,
+    ) in (
       rw (at-stopped .stopped .ensures, at-zero .zero .ensures, at-refusal-number .refusal-number .ensures)
           (ap (λ (s : Running). record { state = s; length = 0 }) (narrowed-none (at-start .args .r))
-          ∙ told-narrow (none-applied (refusal-number (at-start .args .r)) 0) (refused-text (refusal-number (at-start .args .r))) (at-start .args .out .now) short),
+          ∙ told-narrow (none-applied (refusal-number (at-start .args .r)) 0) (refused-text
+          (refusal-number (at-start .args .r))) (at-start .args .out .now) short),
       fitted-narrow (refused-text (refusal-number (at-start .args .r))) (at-start .args .out .now) short,
     )
 
@@ -57,8 +66,11 @@ put-decimal-requires c κs =
     let at-if1 = at-put .before .before .before in
     let at-digits = at-if1 .before .before .before in
     let at-refusal-number = at-digits .before in
-    let at-start = at-refusal-number .before .before in
-    (rw (at-refusal-number .refusal-number .ensures) (code-small (at-start .args .r)), omega (arith, at-if1 .if1 .left, at-digits .digits .ensures, at-put .put .kept .0))
+    let at-start = at-refusal-number .before .before in (
+      rw (at-refusal-number .refusal-number .ensures) (code-small (at-start .args .r)),
+      omega
+          (arith, at-if1 .if1 .left, at-digits .digits .ensures, at-put .put .kept .0),
+    )
 
 slice-write-out : tie.Need-slice-write-out
 slice-write-out c =
@@ -95,7 +107,8 @@ returns-2 c =
     let fits : length (refused-text (refusal-number (at-start .args .r))) ≤ length (at-start .args .out .now) =
     omega (arith, long, at-if1 .if1 .left, end) in (
       rw (at-stopped .stopped .ensures, at-zero .zero .ensures, at-refusal-number .refusal-number .ensures, end, ← long)
-          (told-fits (none-applied (refusal-number (at-start .args .r)) 0) (refused-text (refusal-number (at-start .args .r))) (at-start .args .out .now) fits),
+          (told-fits (none-applied (refusal-number (at-start .args .r)) 0)
+          (refused-text (refusal-number (at-start .args .r))) (at-start .args .out .now) fits),
       rw (at-put-decimal .put-decimal .ensures, at-put .put .ensures, at-refusal-number .refusal-number .ensures)
           (refused-written (refusal-number (at-start .args .r)) (at-start .args .out .now) (omega (arith, end))
           ∙ fitted-fits (refused-text (refusal-number (at-start .args .r))) (at-start .args .out .now) fits),
@@ -103,4 +116,5 @@ returns-2 c =
 
 pub refuse-spec : {M : Type 1} → statement M
 refuse-spec = tie.close
-    (tie.spec refusal-number-requires digits-requires add-end zero-requires stopped-requires returns slice-aggregate-put put-requires put-decimal-requires slice-write-out add-t7 same-length returns-2)
+    (tie.spec refusal-number-requires digits-requires add-end zero-requires stopped-requires returns slice-aggregate-put
+    put-requires put-decimal-requires slice-write-out add-t7 same-length returns-2)

@@ -36,7 +36,8 @@ number-at-requires c κs =
     let at-read-table = c .before .before .before in
     let at-if1 = at-read-table .before in
     let at-start = at-if1 .before .before .before in
-    let room = input-room (at-start .args .input .now) (at-if1 .if1 .left) (at-read-table .read-table .ensures) (c .enum-told .given .1) in omega (arith, room)
+    let room = input-room (at-start .args .input .now) (at-if1 .if1 .left) (at-read-table .read-table .ensures) (c
+    .enum-told .given .1) in omega (arith, room)
 
 cast-n : tie.Need-cast-n
 cast-n c = search needs
@@ -53,7 +54,8 @@ sub-report-rest c =
     let at-read-table = at-enum-told .before .before .before in
     let at-if1 = at-read-table .before in
     let at-start = at-if1 .before .before .before in
-    let room = input-room (at-start .args .input .now) (at-if1 .if1 .left) (at-read-table .read-table .ensures) (at-enum-told .enum-told .given .1) in omega (arith, room, c .number-at .ensures)
+    let room = input-room (at-start .args .input .now) (at-if1 .if1 .left) (at-read-table .read-table .ensures)
+    (at-enum-told .enum-told .given .1) in omega (arith, room, c .number-at .ensures)
 
 part-report-rest-start : tie.Need-part-report-rest-start
 part-report-rest-start c =
@@ -61,7 +63,8 @@ part-report-rest-start c =
     let at-read-table = at-enum-told .before .before .before in
     let at-if1 = at-read-table .before in
     let at-start = at-if1 .before .before .before in
-    let room = input-room (at-start .args .input .now) (at-if1 .if1 .left) (at-read-table .read-table .ensures) (at-enum-told .enum-told .given .1) in omega (arith, room, c .number-at .ensures)
+    let room = input-room (at-start .args .input .now) (at-if1 .if1 .left) (at-read-table .read-table .ensures)
+    (at-enum-told .enum-told .given .1) in omega (arith, room, c .number-at .ensures)
 
 part-report-rest-end : tie.Need-part-report-rest-end
 part-report-rest-end c = search needs
@@ -72,7 +75,8 @@ report-rest-requires c κs =
     let at-read-table = at-enum-told .before .before .before in
     let at-if1 = at-read-table .before in
     let at-start = at-if1 .before .before .before in
-    input-good (at-start .args .input .now) (at-if1 .if1 .left) (at-read-table .read-table .ensures) (at-enum-told .enum-told .given .1)
+    input-good (at-start .args .input .now) (at-if1 .if1 .left) (at-read-table .read-table .ensures) (at-enum-told
+    .enum-told .given .1)
 
 same-length-2 : tie.Need-same-length-2
 same-length-2 c = search needs
@@ -84,7 +88,8 @@ returns-2 c =
     let at-read-table = at-answer .before .before .before in
     let at-if1 = at-read-table .before in
     let at-start = at-if1 .before .before .before in
-    let same = input-refused (at-start .args .input .now) (at-if1 .if1 .left) (at-read-table .read-table .ensures) (at-answer .answer .given .1) in
+    let same = input-refused (at-start .args .input .now) (at-if1 .if1 .left) (at-read-table .read-table .ensures)
+    (at-answer .answer .given .1) in
     let told = at-refuse2 .refuse2 .ensures in
     (rw (same .0, same .1) at (told .0), rw (same .1) at (told .1))
 
@@ -99,10 +104,14 @@ returns-3 c =
     let at-read-table = at-enum-told .before .before .before in
     let at-if1 = at-read-table .before in
     let at-start = at-if1 .before .before .before in
-    let same = input-goes (at-start .args .input .now) (at-if1 .if1 .left) (at-read-table .read-table .ensures) (at-enum-told .enum-told .given .1) in
-    let told = rw (input-rest (at-start .args .input .now) _ (at-number-at .number-at .ensures)) at (at-report-rest .report-rest .ensures) in
+    let same = input-goes (at-start .args .input .now) (at-if1 .if1 .left) (at-read-table .read-table .ensures)
+    (at-enum-told .enum-told .given .1) in
+    let told = rw (input-rest (at-start .args .input .now) _ (at-number-at .number-at .ensures)) at (at-report-rest
+    .report-rest .ensures) in
     (rw (same .0, same .1) at (told .0), rw (same .1) at (told .1))
 
 pub report-spec : {M : Type 1} → statement M
 report-spec = tie.close
-    (tie.spec refuse-requires same-length returns read-table-requires enum-known-answer refuse-requires-2 enum-told number-at-requires cast-n mul-report-rest add-report-rest sub-report-rest part-report-rest-start part-report-rest-end report-rest-requires same-length-2 returns-2 same-length-3 returns-3)
+    (tie.spec refuse-requires same-length returns read-table-requires enum-known-answer refuse-requires-2 enum-told
+    number-at-requires cast-n mul-report-rest add-report-rest sub-report-rest part-report-rest-start
+    part-report-rest-end report-rest-requires same-length-2 returns-2 same-length-3 returns-3)

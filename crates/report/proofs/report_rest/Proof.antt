@@ -23,7 +23,8 @@ number-at-requires : tie.Need-number-at-requires
 number-at-requires c κs =
     let at-check-equations = c .before .before in
     let at-start = at-check-equations .before .before .before in
-    let ready = equations-ready (at-start .args .t .l) (at-start .args .q .now) _ _ refl refl (sym (at-check-equations .check-equations .ensures) ∙ c .enum-told .given .1) in
+    let ready = equations-ready (at-start .args .t .l) (at-start .args .q .now) _ _ refl refl (sym
+    (at-check-equations .check-equations .ensures) ∙ c .enum-told .given .1) in
     omega (arith, ready .0)
 
 cast-e : tie.Need-cast-e
@@ -34,7 +35,8 @@ number-at-requires-2 c κs =
     let at-enum-told = c .before in
     let at-check-equations = at-enum-told .before .before in
     let at-start = at-check-equations .before .before .before in
-    let ready = equations-ready (at-start .args .t .l) (at-start .args .q .now) _ _ refl refl (sym (at-check-equations .check-equations .ensures) ∙ at-enum-told .enum-told .given .1) in
+    let ready = equations-ready (at-start .args .t .l) (at-start .args .q .now) _ _ refl refl (sym
+    (at-check-equations .check-equations .ensures) ∙ at-enum-told .enum-told .given .1) in
     omega (arith, ready .0)
 
 cast-m : tie.Need-cast-m
@@ -47,8 +49,15 @@ tell-fitting-requires c κs =
     let at-enum-told = at-number-at .before in
     let at-check-equations = at-enum-told .before .before in
     let at-start = at-check-equations .before .before .before in
-    let ready = equations-ready (at-start .args .t .l) (at-start .args .q .now) _ _ (at-number-at .number-at .ensures) (at-number-at2 .number-at2 .ensures)
-    (sym (at-check-equations .check-equations .ensures) ∙ at-enum-told .enum-told .given .1) in (ready .1, ready .2, ready .3, ready .4, at-start .pre)
+    let ready = equations-ready (at-start .args .t .l) (at-start .args .q .now) _ _ (at-number-at .number-at .ensures)
+    (at-number-at2 .number-at2 .ensures)
+    (sym (at-check-equations .check-equations .ensures) ∙ at-enum-told .enum-told .given .1) in (
+      ready .1,
+      ready .2,
+      ready .3,
+      ready .4,
+      at-start .pre,
+    )
 
 same-length : tie.Need-same-length
 same-length c = search needs
@@ -59,7 +68,8 @@ returns c =
     let at-r = at-refuse .before .before .before in
     let at-check-equations = at-r .before .before in
     let at-start = at-check-equations .before .before .before in
-    let same = rest-refused (at-start .args .t) (at-start .args .q .now) (sym (at-check-equations .check-equations .ensures) ∙ at-r .r .given .1) in
+    let same = rest-refused (at-start .args .t) (at-start .args .q .now) (sym
+    (at-check-equations .check-equations .ensures) ∙ at-r .r .given .1) in
     let told = at-refuse .refuse .ensures in
     (rw (same .0, same .1) at (told .0), rw (same .1) at (told .1))
 
@@ -74,10 +84,13 @@ returns-2 c =
     let at-enum-told = at-number-at .before in
     let at-check-equations = at-enum-told .before .before in
     let at-start = at-check-equations .before .before .before in
-    let same = rest-goes (at-start .args .t) (at-start .args .q .now) (sym (at-check-equations .check-equations .ensures) ∙ at-enum-told .enum-told .given .1) in
-    let told = rw (at-number-at .number-at .ensures, at-number-at2 .number-at2 .ensures) at (at-tell-fitting .tell-fitting .ensures) in
+    let same = rest-goes (at-start .args .t) (at-start .args .q .now) (sym
+    (at-check-equations .check-equations .ensures) ∙ at-enum-told .enum-told .given .1) in
+    let told = rw (at-number-at .number-at .ensures, at-number-at2 .number-at2 .ensures) at (at-tell-fitting
+    .tell-fitting .ensures) in
     (rw (same .0, same .1) at (told .0), rw (same .1) at (told .1))
 
 pub report-rest-spec : {M : Type 1} → statement M
 report-rest-spec = tie.close
-    (tie.spec check-equations-requires enum-known-r refuse-requires enum-told number-at-requires cast-e number-at-requires-2 cast-m tell-fitting-requires same-length returns same-length-2 returns-2)
+    (tie.spec check-equations-requires enum-known-r refuse-requires enum-told number-at-requires cast-e
+    number-at-requires-2 cast-m tell-fitting-requires same-length returns same-length-2 returns-2)

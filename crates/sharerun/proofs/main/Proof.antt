@@ -25,7 +25,8 @@ array-share-prefix-text : tie.Need-array-share-prefix-text
 array-share-prefix-text c = report-within _ _ _ (c .before .report .ensures .0) (c .before .report .ensures .1) .0
 
 slice-aggregate-write-all : tie.Need-slice-aggregate-write-all
-slice-aggregate-write-all c = report-within _ _ _ (c .before .before .report .ensures .0) (c .before .before .report .ensures .1) .1
+slice-aggregate-write-all c = report-within _ _ _ (c .before .before .report .ensures .0) (c .before .before .report
+    .ensures .1) .1
 
 write-all-requires : tie.Need-write-all-requires
 write-all-requires c κs = search needs
@@ -35,4 +36,5 @@ returns c = search needs
 
 pub main-spec : {M : Type 1} → statement M
 main-spec = tie.close
-    (tie.spec slice-aggregate-read-full read-full-requires array-share-prefix-input slice-aggregate-report slice-aggregate-report-2 report-requires array-share-prefix-text slice-aggregate-write-all write-all-requires returns)
+    (tie.spec slice-aggregate-read-full read-full-requires array-share-prefix-input slice-aggregate-report
+    slice-aggregate-report-2 report-requires array-share-prefix-text slice-aggregate-write-all write-all-requires returns)

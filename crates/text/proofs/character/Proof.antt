@@ -7,10 +7,12 @@ returns : tie.Need-returns
 returns c = search needs
 
 returns-2 : tie.Need-returns-2
-returns-2 c = fixed-zero (c .before .before .args .care) (c .before .before .args .value) (c .before .if1 .left) (c .if2 .taken)
+returns-2 c = fixed-zero (c .before .before .args .care) (c .before .before .args .value) (c .before .if1 .left) (c .if2
+    .taken)
 
 returns-3 : tie.Need-returns-3
-returns-3 c = fixed-one (c .before .before .args .care) (c .before .before .args .value) (c .before .if1 .left) (c .if2 .left)
+returns-3 c = fixed-one (c .before .before .args .care) (c .before .before .args .value) (c .before .if1 .left) (c .if2
+    .left)
 
 pub character-spec : {M : Type 1} → statement M
 character-spec = tie.close

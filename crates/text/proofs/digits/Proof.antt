@@ -1,7 +1,6 @@
 use mathlib.Core.Path.{sym, ap}
 use lib.ListN.{length}
 use Rattle.text.proofs.Writing.{one-digit, two-digits, three-digits}
-use borrow.Author.Needs.{needs}
 use Rattle.text.proofs.digits.Statement.{statement}
 use Rattle.text.proofs.digits.Tie as tie
 

@@ -14,25 +14,61 @@ add-result : tie.Need-add-result
 add-result c =
     let at-digits = c .before in
     let at-start = at-digits .before in
-    omega (arith, at-digits .digits .ensures, c .digits2 .ensures, decimal-most (at-start .args .a), decimal-most (at-start .args .b), at-start .pre .0, at-start .pre .1)
+    omega (
+      arith,
+      at-digits .digits .ensures,
+      c .digits2 .ensures,
+      decimal-most (at-start .args .a),
+      decimal-most
+          (at-start .args .b),
+      at-start .pre .0,
+      at-start .pre .1,
+    )
 
 add-result-2 : tie.Need-add-result-2
 add-result-2 c =
     let at-digits = c .before in
     let at-start = at-digits .before in
-    omega (arith, at-digits .digits .ensures, c .digits2 .ensures, decimal-most (at-start .args .a), decimal-most (at-start .args .b), at-start .pre .0, at-start .pre .1)
+    omega (
+      arith,
+      at-digits .digits .ensures,
+      c .digits2 .ensures,
+      decimal-most (at-start .args .a),
+      decimal-most
+          (at-start .args .b),
+      at-start .pre .0,
+      at-start .pre .1,
+    )
 
 add-result-3 : tie.Need-add-result-3
 add-result-3 c =
     let at-digits = c .before in
     let at-start = at-digits .before in
-    omega (arith, at-digits .digits .ensures, c .digits2 .ensures, decimal-most (at-start .args .a), decimal-most (at-start .args .b), at-start .pre .0, at-start .pre .1)
+    omega (
+      arith,
+      at-digits .digits .ensures,
+      c .digits2 .ensures,
+      decimal-most (at-start .args .a),
+      decimal-most
+          (at-start .args .b),
+      at-start .pre .0,
+      at-start .pre .1,
+    )
 
 add-result-4 : tie.Need-add-result-4
 add-result-4 c =
     let at-digits = c .before in
     let at-start = at-digits .before in
-    omega (arith, at-digits .digits .ensures, c .digits2 .ensures, decimal-most (at-start .args .a), decimal-most (at-start .args .b), at-start .pre .0, at-start .pre .1)
+    omega (
+      arith,
+      at-digits .digits .ensures,
+      c .digits2 .ensures,
+      decimal-most (at-start .args .a),
+      decimal-most
+          (at-start .args .b),
+      at-start .pre .0,
+      at-start .pre .1,
+    )
 
 returns : tie.Need-returns
 returns c = search needs

@@ -17,7 +17,6 @@ abbrev μ-loop : tie.MeasureT-loop
 
 loop-holds : tie.Need-loop-holds Inv-loop μ-loop
 loop-holds c =
-    
     (omega arith, ap (λ (k : ℕ). sets (c .args .out .now) k (c .args .word .now)) (omega arith), refl)
 
 shared-slice-read-out : tie.Need-shared-slice-read-out Inv-loop μ-loop
@@ -43,10 +42,10 @@ loop-again : tie.Need-loop-again Inv-loop μ-loop
 loop-again c =
     let at-loop-test = c .before in
     let at-loop = at-loop-test .before in
-    let at-start = at-loop .before in
-    (
+    let at-start = at-loop .before in (
       omega (arith, at-loop-test .loop-test .taken),
-      copy-turn (at-loop .loop .out) (at-start .args .word .now) (at-start .args .at) (at-loop .loop .i) (at-loop-test .loop-test .taken) ∙ at-loop .loop .inv .1,
+      copy-turn (at-loop .loop .out) (at-start .args .word .now) (at-start .args .at) (at-loop .loop .i) (at-loop-test
+          .loop-test .taken) ∙ at-loop .loop .inv .1,
       rw length-set (at-loop .loop .inv .2),
     )
 
@@ -57,8 +56,10 @@ returns : tie.Need-returns Inv-loop μ-loop
 returns c =
     let at-loop = c .before in
     let at-start = at-loop .before in
-    copy-end (at-loop .loop .out) (at-start .args .word .now) (at-start .args .at) (at-loop .loop .i) (c .loop-test .left) ∙ at-loop .loop .inv .1
+    copy-end (at-loop .loop .out) (at-start .args .word .now) (at-start .args .at) (at-loop .loop .i) (c .loop-test
+    .left) ∙ at-loop .loop .inv .1
 
 pub put-spec : {M : Type 1} → statement M
 put-spec = tie.close
-    (tie.spec Inv-loop μ-loop loop-holds shared-slice-read-out add-out slice-write-out add-i loop-less loop-again same-length returns)
+    (tie.spec Inv-loop μ-loop loop-holds shared-slice-read-out add-out slice-write-out add-i loop-less loop-again
+    same-length returns)

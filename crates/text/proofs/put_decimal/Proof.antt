@@ -38,7 +38,8 @@ slice-write-out-3 c =
     let at-if2 = c .before .before in
     let at-if1 = at-if2 .before in
     let at-start = at-if1 .before .before in
-    let long = rw (two-digits _ (at-if1 .if1 .left) (at-if2 .if2 .taken)) at (at-start .pre .1) in simp length-set (omega (arith, long))
+    let long = rw (two-digits _ (at-if1 .if1 .left) (at-if2 .if2 .taken)) at (at-start .pre .1) in simp length-set
+    (omega (arith, long))
 
 digit-requires-4 : tie.Need-digit-requires-4
 digit-requires-4 c κs = search needs
@@ -99,8 +100,17 @@ returns-3 c =
     let at-if2 = at-digit4 .before in
     let at-start = at-if2 .before .before .before in
     let e : at-start .args .at + 2 ≡ suc (suc (at-start .args .at)) = omega arith in
-    rw (three-digits _ (at-if2 .if2 .left), at-digit4 .digit4 .ensures, at-digit5 .digit5 .ensures, c .digit6 .ensures, add-one, e)
+    rw (
+      three-digits _ (at-if2 .if2 .left),
+      at-digit4 .digit4 .ensures,
+      at-digit5 .digit5 .ensures,
+      c .digit6 .ensures,
+      add-one,
+      e,
+    )
 
 pub put-decimal-spec : {M : Type 1} → statement M
 put-decimal-spec = tie.close
-    (tie.spec digit-requires slice-write-out digit-requires-2 slice-write-out-2 digit-requires-3 add-out slice-write-out-3 digit-requires-4 slice-write-out-4 digit-requires-5 add-out-2 slice-write-out-5 digit-requires-6 add-out-3 slice-write-out-6 same-length returns same-length-2 returns-2 same-length-3 returns-3)
+    (tie.spec digit-requires slice-write-out digit-requires-2 slice-write-out-2 digit-requires-3 add-out
+    slice-write-out-3 digit-requires-4 slice-write-out-4 digit-requires-5 add-out-2 slice-write-out-5 digit-requires-6
+    add-out-3 slice-write-out-6 same-length returns same-length-2 returns-2 same-length-3 returns-3)

@@ -50,7 +50,11 @@ put-entry-requires c κs =
     let at-loop-test = c .before in
     let at-loop = at-loop-test .before in
     let at-start = at-loop .before .before .before .before in
-    let left = left-length (at-start .pre .0) (at-loop .loop .i) (at-loop-test .loop-test .taken) in omega (arith, left, at-loop .loop .inv .2)
+    let left = left-length (at-start .pre .0) (at-loop .loop .i) (at-loop-test .loop-test .taken) in omega (
+      arith,
+      left,
+      at-loop .loop .inv .2,
+    )
 
 cast-here : tie.Need-cast-here Inv-loop μ-loop
 cast-here c = search needs
@@ -66,7 +70,13 @@ add-here-2 c =
     let at-loop = at-loop-test .before in
     let at-start = at-loop .before .before .before .before in
     let left = left-length (at-start .pre .0) (at-loop .loop .i) (at-loop-test .loop-test .taken) in
-    let fits : length (at-loop .loop .out) ≤ 18446744073709551615 = search needs in omega (arith, left, at-loop .loop .inv .2, fits)
+    let fits : length (at-loop .loop .out) ≤ 18446744073709551615 = search needs in omega (
+      arith,
+      left,
+      at-loop .loop
+          .inv .2,
+      fits,
+    )
 
 add-i : tie.Need-add-i Inv-loop μ-loop
 add-i c = search needs
@@ -80,10 +90,10 @@ loop-again c =
     let at-loop-test = at-put-entry .before .before in
     let at-loop = at-loop-test .before in
     let at-start = at-loop .before .before .before .before in
-    
     let left = left-length (at-start .pre .0) (at-loop .loop .i) (at-loop-test .loop-test .taken) in (
       omega (arith, at-loop-test .loop-test .taken),
-      entries-turn (at-start .pre .0) (at-loop .loop .i) (at-loop-test .loop-test .taken) (at-loop .loop .out) (at-loop .loop .here) (at-put-entry .put-entry .ensures) ∙ at-loop .loop .inv .1,
+      entries-turn (at-start .pre .0) (at-loop .loop .i) (at-loop-test .loop-test .taken) (at-loop .loop .out) (at-loop
+          .loop .here) (at-put-entry .put-entry .ensures) ∙ at-loop .loop .inv .1,
       omega (arith, left, at-loop .loop .inv .2, at-put-entry .put-entry .kept .0),
       at-put-entry .put-entry .kept .0 ∙ at-loop .loop .inv .3,
     )
@@ -95,8 +105,10 @@ returns : tie.Need-returns Inv-loop μ-loop
 returns c =
     let at-loop = c .before in
     let at-start = at-loop .before .before .before .before in
-    sym (ap (sets (at-loop .loop .out) (at-loop .loop .here)) (entries-end (at-start .pre .0) (at-loop .loop .i) (c .loop-test .left))) ∙ at-loop .loop .inv .1
+    sym (ap (sets (at-loop .loop .out) (at-loop .loop .here))
+    (entries-end (at-start .pre .0) (at-loop .loop .i) (c .loop-test .left))) ∙ at-loop .loop .inv .1
 
 pub put-entries-spec : {M : Type 1} → statement M
 put-entries-spec = tie.close
-    (tie.spec Inv-loop μ-loop loop-holds mul-put-entry array-read-put-entry mul-put-entry-2 array-read-put-entry-2 put-entry-requires cast-here add-here add-here-2 add-i loop-less loop-again same-length returns)
+    (tie.spec Inv-loop μ-loop loop-holds mul-put-entry array-read-put-entry mul-put-entry-2 array-read-put-entry-2
+    put-entry-requires cast-here add-here add-here-2 add-i loop-less loop-again same-length returns)

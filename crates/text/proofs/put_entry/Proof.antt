@@ -1,5 +1,5 @@
 use mathlib.Core.Path.{_≡_, refl, ap, _∙_}
-use Prim.Native.Nat.{ℕ, _+_, _-_, _≤_}
+use Prim.Native.Nat.{ℕ, _-_, _≤_}
 use native.Mathlib.Omega.{arith}
 use lib.ListN.{length, length-set}
 use lib.Seq.{sets}
@@ -25,8 +25,12 @@ add-end c = search needs
 
 loop-holds : tie.Need-loop-holds Inv-loop μ-loop
 loop-holds c =
-    let at-start = c .before in
-    (omega arith, ap (λ (k : ℕ). sets (at-start .args .out .now) (at-start .args .at) (entry-text (string k (record { care = at-start .args .care; value = at-start .args .value })))) (omega arith), refl)
+    let at-start = c .before in (
+      omega arith,
+      ap (λ (k : ℕ). sets (at-start .args .out .now) (at-start .args .at)
+          (entry-text (string k (record { care = at-start .args .care; value = at-start .args .value })))) (omega arith),
+      refl,
+    )
 
 character-requires : tie.Need-character-requires Inv-loop μ-loop
 character-requires c κs = search needs
@@ -47,10 +51,10 @@ loop-less c = search needs
 loop-again : tie.Need-loop-again Inv-loop μ-loop
 loop-again c =
     let at-loop-test = c .before in
-    let at-loop = at-loop-test .before in
-    (
+    let at-loop = at-loop-test .before in (
       omega (arith, at-loop-test .loop-test .taken),
-      entry-turn (at-loop .loop .out) (at-loop .loop .i) _ (at-loop .loop .c) (at-loop .loop .v) _ (at-loop-test .loop-test .taken) (c .character .ensures) ∙ at-loop .loop .inv .1,
+      entry-turn (at-loop .loop .out) (at-loop .loop .i) _ (at-loop .loop .c) (at-loop .loop .v) _ (at-loop-test
+          .loop-test .taken) (c .character .ensures) ∙ at-loop .loop .inv .1,
       rw length-set (at-loop .loop .inv .2),
     )
 
@@ -66,8 +70,10 @@ same-length c = rw length-set (c .before .loop .inv .2)
 returns : tie.Need-returns Inv-loop μ-loop
 returns c =
     let at-loop = c .before in
-    entry-end (at-loop .loop .out) (at-loop .loop .i) _ (at-loop .loop .c) (at-loop .loop .v) (omega (arith, c .loop-test .left, at-loop .loop .inv .0)) ∙ at-loop .loop .inv .1
+    entry-end (at-loop .loop .out) (at-loop .loop .i) _ (at-loop .loop .c) (at-loop .loop .v) (omega
+    (arith, c .loop-test .left, at-loop .loop .inv .0)) ∙ at-loop .loop .inv .1
 
 pub put-entry-spec : {M : Type 1} → statement M
 put-entry-spec = tie.close
-    (tie.spec Inv-loop μ-loop add-end loop-holds character-requires slice-write-out add-i loop-less loop-again slice-write-out-2 same-length returns)
+    (tie.spec Inv-loop μ-loop add-end loop-holds character-requires slice-write-out add-i loop-less loop-again
+    slice-write-out-2 same-length returns)

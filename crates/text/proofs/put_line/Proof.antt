@@ -51,8 +51,17 @@ put-decimal-requires c κs =
     let at-digits2 = at-put .before .before in
     let at-digits = at-digits2 .before in
     let at-start = at-digits .before .before .before .before in
-    let long = line-length (at-start .args .v .now) (at-start .args .w .now) (at-start .args .a) (at-start .args .b) in
-    (at-start .pre .0, omega (arith, at-digits .digits .ensures, at-digits2 .digits2 .ensures, long, at-start .pre .2, at-put .put .kept .0))
+    let long = line-length (at-start .args .v .now) (at-start .args .w .now) (at-start .args .a) (at-start .args .b) in (
+      at-start .pre .0,
+      omega (
+        arith,
+        at-digits .digits .ensures,
+        at-digits2 .digits2 .ensures,
+        long,
+        at-start .pre .2,
+        at-put .put .kept .0,
+      ),
+    )
 
 put-requires-2 : tie.Need-put-requires-2
 put-requires-2 c κs =
@@ -62,7 +71,16 @@ put-requires-2 c κs =
     let at-digits = at-digits2 .before in
     let at-start = at-digits .before .before .before .before in
     let long = line-length (at-start .args .v .now) (at-start .args .w .now) (at-start .args .a) (at-start .args .b) in
-    omega (arith, at-digits .digits .ensures, at-digits2 .digits2 .ensures, long, at-start .pre .2, at-put .put .kept .0, at-put-decimal .put-decimal .kept .0)
+    omega (
+      arith,
+      at-digits .digits .ensures,
+      at-digits2 .digits2 .ensures,
+      long,
+      at-start .pre .2,
+      at-put .put .kept
+          .0,
+      at-put-decimal .put-decimal .kept .0,
+    )
 
 put-decimal-requires-2 : tie.Need-put-decimal-requires-2
 put-decimal-requires-2 c κs =
@@ -72,8 +90,19 @@ put-decimal-requires-2 c κs =
     let at-digits2 = at-put .before .before in
     let at-digits = at-digits2 .before in
     let at-start = at-digits .before .before .before .before in
-    let long = line-length (at-start .args .v .now) (at-start .args .w .now) (at-start .args .a) (at-start .args .b) in
-    (at-start .pre .1, omega (arith, at-digits .digits .ensures, at-digits2 .digits2 .ensures, long, at-start .pre .2, at-put .put .kept .0, at-put-decimal .put-decimal .kept .0, at-put2 .put2 .kept .0))
+    let long = line-length (at-start .args .v .now) (at-start .args .w .now) (at-start .args .a) (at-start .args .b) in (
+      at-start .pre .1,
+      omega (
+        arith,
+        at-digits .digits .ensures,
+        at-digits2 .digits2 .ensures,
+        long,
+        at-start .pre .2,
+        at-put .put .kept .0,
+        at-put-decimal .put-decimal .kept .0,
+        at-put2 .put2 .kept .0,
+      ),
+    )
 
 slice-write-out : tie.Need-slice-write-out
 slice-write-out c =
@@ -85,7 +114,18 @@ slice-write-out c =
     let at-digits = at-digits2 .before in
     let at-start = at-digits .before .before .before .before in
     let long = line-length (at-start .args .v .now) (at-start .args .w .now) (at-start .args .a) (at-start .args .b) in
-    omega (arith, at-digits .digits .ensures, at-digits2 .digits2 .ensures, long, at-start .pre .2, at-put .put .kept .0, at-put-decimal .put-decimal .kept .0, at-put2 .put2 .kept .0, at-put-decimal2 .put-decimal2 .kept .0)
+    omega (
+      arith,
+      at-digits .digits .ensures,
+      at-digits2 .digits2 .ensures,
+      long,
+      at-start .pre .2,
+      at-put .put .kept
+          .0,
+      at-put-decimal .put-decimal .kept .0,
+      at-put2 .put2 .kept .0,
+      at-put-decimal2 .put-decimal2 .kept .0,
+    )
 
 same-length : tie.Need-same-length
 same-length c =
@@ -93,7 +133,8 @@ same-length c =
     let at-put2 = at-put-decimal2 .before .before .before .before in
     let at-put-decimal = at-put2 .before .before .before .before in
     let at-put = at-put-decimal .before .before .before .before in
-    rw length-set (at-put-decimal2 .put-decimal2 .kept .0 ∙ at-put2 .put2 .kept .0 ∙ at-put-decimal .put-decimal .kept .0 ∙ at-put .put .kept .0)
+    rw length-set (at-put-decimal2 .put-decimal2 .kept .0 ∙ at-put2 .put2 .kept .0 ∙ at-put-decimal .put-decimal .kept
+    .0 ∙ at-put .put .kept .0)
 
 returns : tie.Need-returns
 returns c =
@@ -104,10 +145,18 @@ returns c =
     let at-digits2 = at-put .before .before in
     let at-digits = at-digits2 .before in
     let at-start = at-digits .before .before .before .before in
-    rw (at-put-decimal2 .put-decimal2 .ensures, at-put2 .put2 .ensures, at-put-decimal .put-decimal .ensures, at-put .put .ensures)
-    (line-written (at-start .args .out .now) (at-start .args .v .now) (at-start .args .w .now) (at-start .args .a) (at-start .args .b) (at-start .args .at) refl
+    rw (
+      at-put-decimal2 .put-decimal2 .ensures,
+      at-put2 .put2 .ensures,
+      at-put-decimal .put-decimal .ensures,
+      at-put
+          .put .ensures,
+    )
+    (line-written (at-start .args .out .now) (at-start .args .v .now) (at-start .args .w .now) (at-start .args .a)
+    (at-start .args .b) (at-start .args .at) refl
     (omega (arith, at-digits .digits .ensures)) refl (omega (arith, at-digits2 .digits2 .ensures)))
 
 pub put-line-spec : {M : Type 1} → statement M
 put-line-spec = tie.close
-    (tie.spec add-first digits-requires add-second add-third digits-requires-2 add-end put-requires put-decimal-requires put-requires-2 put-decimal-requires-2 slice-write-out same-length returns)
+    (tie.spec add-first digits-requires add-second add-third digits-requires-2 add-end put-requires put-decimal-requires
+    put-requires-2 put-decimal-requires-2 slice-write-out same-length returns)

@@ -1,8 +1,8 @@
 use native.Mathlib.Omega.{arith}
-use Rattle.report.specs.Lines.{equation-text}
+use Rattle.run_text.specs.Lines.{equation-text}
 use borrow.Author.Needs.{needs}
-use Rattle.report.proofs.tell_equation.Statement.{statement}
-use Rattle.report.proofs.tell_equation.Tie as tie
+use Rattle.run_text.proofs.tell_equation.Statement.{statement}
+use Rattle.run_text.proofs.tell_equation.Tie as tie
 
 enum-told : tie.Need-enum-told
 enum-told c = search needs
@@ -14,8 +14,7 @@ tell-table-requires : tie.Need-tell-table-requires
 unfolding equation-text
 tell-table-requires c κs =
     let at-enum-told = c .before .before in
-    let at-start = at-enum-told .before .before .before in
-    (
+    let at-start = at-enum-told .before .before .before in (
       at-start .pre .0,
       omega arith,
       at-start .pre .1,
@@ -53,4 +52,5 @@ returns-2 c =
 
 pub tell-equation-spec : {M : Type 1} → statement M
 tell-equation-spec = tie.close
-    (tie.spec enum-told slice-aggregate-tell-table tell-table-requires enum-known-answer tell-refused-requires same-length returns same-length-2 returns-2)
+    (tie.spec enum-told slice-aggregate-tell-table tell-table-requires enum-known-answer tell-refused-requires
+    same-length returns same-length-2 returns-2)

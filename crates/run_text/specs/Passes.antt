@@ -4,8 +4,8 @@ use mathlib.Core.List.{List}
 use Prim.Native.Nat.{ℕ, _+_, _≤_}
 use lib.ListN.{length}
 use lib.Seq.{sets}
-use Rattle.report.specs.declared.Pass.{Pass}
-use Rattle.report.specs.declared.Pass.the-variants.{Measure, Write}
+use Rattle.run_text.specs.declared.Pass.{Pass}
+use Rattle.run_text.specs.declared.Pass.the-variants.{Measure, Write}
 
 -- Where a text is written there is room for it.
 abbrev pub Room : Pass → List ℕ → ℕ → List ℕ → Type 0

@@ -4,7 +4,7 @@ use mathlib.Core.List.{List, [], _∷_, _++_}
 use Prim.Native.Nat.{ℕ, _+_, _-_, _*_, _≤_, _<_}
 use native.Mathlib.Omega.{arith}
 use lib.ListN.{length, take, drop, length-append}
-use Rattle.model.specs.Tables.{Side, positive}
+use Rattle.model.specs.Tables.{positive}
 use Rattle.tables.specs.declared.Table.{Table}
 use Rattle.tables.specs.declared.Refusal.{Refusal}
 use Rattle.tables.specs.declared.Answer.{Answer}
@@ -18,16 +18,15 @@ use Rattle.codec.specs.Numbers.{number-at, numbers, sum, with-zeros}
 use Rattle.codec.proofs.Laws.{length-numbers}
 use Rattle.forms.specs.Equations.{Written, lefts, counts, share-out, equations-of}
 use Rattle.forms.proofs.Walking.{later, this, later-next, later-none, this-part}
-use Rattle.running.specs.declared.Running.{Running}
 use Rattle.running.specs.States.{state, run-from}
 use Rattle.running.proofs.Steps.{Going, going-start, going-end, going-stop, going-step}
 use Rattle.analyser.proofs.Equations.{accepted-exact, refused-kept}
-use Rattle.report.specs.declared.Pass.{Pass}
-use Rattle.report.specs.Lines.{vars, first-text, equation-text}
-use Rattle.report.specs.Passes.{Room, passed}
-use Rattle.report.specs.Reports.{text-on, text-from, run-text}
-use Rattle.report.proofs.Telling.{block-most, equation-most}
-use Rattle.report.proofs.Telling.{Telling, telling-start, room-next, telling-on, telling-done}
+use Rattle.run_text.specs.declared.Pass.{Pass}
+use Rattle.run_text.specs.Lines.{vars, first-text, equation-text}
+use Rattle.run_text.specs.Passes.{Room, passed}
+use Rattle.run_text.specs.Runs.{text-on, text-from, run-text}
+use Rattle.run_text.proofs.Telling.{block-most, equation-most}
+use Rattle.run_text.proofs.Telling.{Telling, telling-start, room-next, telling-on, telling-done}
 
 -- the table after an equation is good, whatever the answer
 good-after : (t : Table) (x : ℕ) (ts : List ℕ) → GoodTable t → GoodTable (equation-call positive t x ts .table)

@@ -3,13 +3,13 @@ use Prim.Native.Nat.{_+_, _-_, _*_, _≤_}
 use native.Mathlib.Omega.{arith}
 use Rattle.forms.specs.Equations.{equations-of}
 use Rattle.forms.proofs.Walking.{place-room}
-use Rattle.report.specs.Lines.{vars}
-use Rattle.report.proofs.Telling.{block-most, equation-most}
-use Rattle.report.proofs.Equations.{Saying, saying-start, saying-step, saying-stop, saying-end, good-next}
-use Rattle.report.proofs.Equations.{room-equation, room-first, room-rest, all-told}
+use Rattle.run_text.specs.Lines.{vars}
+use Rattle.run_text.proofs.Telling.{block-most, equation-most}
+use Rattle.run_text.proofs.Equations.{Saying, saying-start, saying-step, saying-stop, saying-end, good-next}
+use Rattle.run_text.proofs.Equations.{room-equation, room-first, room-rest, all-told}
 use borrow.Author.Needs.{needs}
-use Rattle.report.proofs.tell.Statement.{statement}
-use Rattle.report.proofs.tell.Tie as tie
+use Rattle.run_text.proofs.tell.Statement.{statement}
+use Rattle.run_text.proofs.tell.Tie as tie
 
 abbrev Inv-loop : tie.InvT-loop
 Inv-loop pass e m q out₀ row end₀ t at₀ k₀ out end u at k =
@@ -39,13 +39,14 @@ loop-holds : tie.Need-loop-holds Inv-loop μ-loop
 loop-holds c =
     let at-tell-first = c .before .before in
     let at-start = at-tell-first .before .before .before .before .before .before in
-    
     let ws = equations-of (at-start .args .e) (at-start .args .m) (at-start .args .q .now) in
     let told = at-tell-first .tell-first .ensures in (
       omega arith,
       let most = block-most vars (at-start .args .t .l) (at-start .pre .4) (omega arith) in omega (arith, told .0, most),
-      saying-start (at-start .args .pass) (at-start .args .e) (at-start .args .m) (at-start .args .q .now) (at-start .args .t) _ _ (at-start .pre .3) (at-start .pre .4)
-          (room-rest (at-start .args .pass) (at-start .args .out .now) (at-start .args .t) ws (at-start .pre .5) (told .1) (told .0)),
+      saying-start (at-start .args .pass) (at-start .args .e) (at-start .args .m) (at-start .args .q .now) (at-start
+          .args .t) _ _ (at-start .pre .3) (at-start .pre .4)
+          (room-rest (at-start .args .pass) (at-start .args .out .now) (at-start .args .t) ws (at-start .pre .5)
+          (told .1) (told .0)),
     )
 
 mul-number-at : tie.Need-mul-number-at Inv-loop μ-loop
@@ -97,9 +98,18 @@ part-equation-start c = search needs
 
 part-equation-end : tie.Need-part-equation-end Inv-loop μ-loop
 part-equation-end c = let room =
-    place-room (c .before .before .before .before .before .before .before .before .before .before .before .before .args .e) (c .before .before .before .before .before .before .before .before .before .before .before .before .args .m) (c .before .before .before .before .before .before .before .before .before .before .before .before .args .q .now) (c .before .before .before .loop .k) (c .before .before .before .loop .at) _ _
-    (c .before .before .loop-test .taken) (c .before .number-at .ensures) (c .number-at2 .ensures) (c .before .before .before .loop .inv .2 .going .0) in
-    omega (arith, c .before .before .before .before .before .before .before .before .before .before .before .before .pre .1, room)
+    place-room (c .before .before .before .before .before .before .before .before .before .before .before .before .args
+    .e) (c .before .before .before .before .before .before .before .before .before .before .before .before .args .m)
+    (c .before .before .before .before .before .before .before .before .before .before .before .before .args .q
+    .now) (c .before .before .before .loop .k) (c .before .before .before .loop .at) _ _
+    (c .before .before .loop-test .taken) (c .before .number-at .ensures) (c .number-at2 .ensures) (c .before .before
+    .before .loop .inv .2 .going .0) in
+    omega (
+      arith,
+      c .before .before .before .before .before .before .before .before .before .before .before .before .pre
+          .1,
+      room,
+    )
 
 equation-requires : tie.Need-equation-requires Inv-loop μ-loop
 equation-requires c κs = search needs
@@ -124,14 +134,18 @@ tell-equation-requires c κs =
     let at-loop-test = at-number-at .before in
     let at-loop = at-loop-test .before in
     let at-tokens-at = at-loop .before .before .before .before .before .before in
-    let at-start = at-tokens-at .before .before .before in
-    (
+    let at-start = at-tokens-at .before .before .before in (
       omega (arith, at-start .pre .0, at-loop-test .loop-test .taken, at-loop .loop .inv .1),
       omega (arith, at-start .pre .0, at-loop-test .loop-test .taken),
-      good-next (at-start .args .pass) (at-start .args .e) (at-start .args .m) (at-start .args .q .now) (at-start .args .t) _ _ (at-loop .loop .out) (at-loop .loop .end) (at-loop .loop .u) (at-loop .loop .at) (at-loop .loop .k) _ _
-    (at-loop-test .loop-test .taken) (at-number-at .number-at .ensures) (at-number-at2 .number-at2 .ensures) (at-loop .loop .inv .2) (at-tokens-at .tokens-at .ensures) (at-equation .equation .ensures),
-      room-equation (at-start .args .pass) (at-start .args .e) (at-start .args .m) (at-start .args .q .now) (at-start .args .t) _ _ (at-loop .loop .out) (at-loop .loop .end) (at-loop .loop .u) (at-loop .loop .at) (at-loop .loop .k) _ _
-    (at-loop-test .loop-test .taken) (at-number-at .number-at .ensures) (at-number-at2 .number-at2 .ensures) (at-loop .loop .inv .2) (at-tokens-at .tokens-at .ensures) (at-equation .equation .ensures),
+      good-next (at-start .args .pass) (at-start .args .e) (at-start .args .m) (at-start .args .q .now) (at-start .args
+          .t) _ _ (at-loop .loop .out) (at-loop .loop .end) (at-loop .loop .u) (at-loop .loop .at) (at-loop .loop .k) _ _
+          (at-loop-test .loop-test .taken) (at-number-at .number-at .ensures) (at-number-at2 .number-at2 .ensures) (at-loop
+          .loop .inv .2) (at-tokens-at .tokens-at .ensures) (at-equation .equation .ensures),
+      room-equation (at-start .args .pass) (at-start .args .e) (at-start .args .m) (at-start .args .q .now) (at-start
+          .args .t) _ _ (at-loop .loop .out) (at-loop .loop .end) (at-loop .loop .u) (at-loop .loop .at) (at-loop .loop
+          .k) _ _
+          (at-loop-test .loop-test .taken) (at-number-at .number-at .ensures) (at-number-at2 .number-at2 .ensures) (at-loop
+          .loop .inv .2) (at-tokens-at .tokens-at .ensures) (at-equation .equation .ensures),
     )
 
 enum-known-answer : tie.Need-enum-known-answer Inv-loop μ-loop
@@ -142,7 +156,8 @@ refusal-number-requires c κs = search needs
 
 stopped-requires : tie.Need-stopped-requires Inv-loop μ-loop
 stopped-requires c κs =
-    let at-loop-test = c .before .before .before .before .before .before .before .before .before .before .before .before .before in
+    let at-loop-test = c .before .before .before .before .before .before .before .before .before .before .before .before
+    .before in
     let at-start = at-loop-test .before .before .before .before .before .before .before .before .before .before in
     omega (arith, at-start .pre .0, at-loop-test .loop-test .taken)
 
@@ -158,12 +173,16 @@ same-length c =
     let at-tell-first = at-loop .before .before .before in
     let at-tokens-at = at-tell-first .before .before .before in
     let at-start = at-tokens-at .before .before .before in
-    
     let first = at-tell-first .tell-first .ensures in
     let told = at-tell-equation .tell-equation .ensures in
-    let stop = saying-stop (at-start .args .pass) (at-start .args .e) (at-start .args .m) (at-start .args .q .now) (at-start .args .t) _ _ (at-loop .loop .out) (at-loop .loop .end) (at-loop .loop .u) (at-loop .loop .at) (at-loop .loop .k) _ _
-    (at-loop-test .loop-test .taken) (at-number-at .number-at .ensures) (at-number-at2 .number-at2 .ensures) (at-loop .loop .inv .2) (at-tokens-at .tokens-at .ensures) (at-equation .equation .ensures) (told .1) (told .0) (at-answer .answer .given .1) in
-    all-told (at-start .args .pass) (at-start .args .out .now) (at-start .args .t) _ (at-start .pre .5) (first .1) (first .0) (stop .1) .2
+    let stop = saying-stop (at-start .args .pass) (at-start .args .e) (at-start .args .m) (at-start .args .q .now)
+    (at-start .args .t) _ _ (at-loop .loop .out) (at-loop .loop .end) (at-loop .loop .u) (at-loop .loop .at)
+    (at-loop .loop .k) _ _
+    (at-loop-test .loop-test .taken) (at-number-at .number-at .ensures) (at-number-at2 .number-at2 .ensures) (at-loop
+    .loop .inv .2) (at-tokens-at .tokens-at .ensures) (at-equation .equation .ensures) (told .1) (told .0) (at-answer
+    .answer .given .1) in
+    all-told (at-start .args .pass) (at-start .args .out .now) (at-start .args .t) _ (at-start .pre .5) (first .1)
+    (first .0) (stop .1) .2
 
 returns : tie.Need-returns Inv-loop μ-loop
 returns c =
@@ -178,12 +197,16 @@ returns c =
     let at-tell-first = at-loop .before .before .before in
     let at-tokens-at = at-tell-first .before .before .before in
     let at-start = at-tokens-at .before .before .before in
-    
     let first = at-tell-first .tell-first .ensures in
     let told = at-tell-equation .tell-equation .ensures in
-    let stop = saying-stop (at-start .args .pass) (at-start .args .e) (at-start .args .m) (at-start .args .q .now) (at-start .args .t) _ _ (at-loop .loop .out) (at-loop .loop .end) (at-loop .loop .u) (at-loop .loop .at) (at-loop .loop .k) _ _
-    (at-loop-test .loop-test .taken) (at-number-at .number-at .ensures) (at-number-at2 .number-at2 .ensures) (at-loop .loop .inv .2) (at-tokens-at .tokens-at .ensures) (at-equation .equation .ensures) (told .1) (told .0) (at-answer .answer .given .1) in
-    let all = all-told (at-start .args .pass) (at-start .args .out .now) (at-start .args .t) _ (at-start .pre .5) (first .1) (first .0) (stop .1) in
+    let stop = saying-stop (at-start .args .pass) (at-start .args .e) (at-start .args .m) (at-start .args .q .now)
+    (at-start .args .t) _ _ (at-loop .loop .out) (at-loop .loop .end) (at-loop .loop .u) (at-loop .loop .at)
+    (at-loop .loop .k) _ _
+    (at-loop-test .loop-test .taken) (at-number-at .number-at .ensures) (at-number-at2 .number-at2 .ensures) (at-loop
+    .loop .inv .2) (at-tokens-at .tokens-at .ensures) (at-equation .equation .ensures) (told .1) (told .0) (at-answer
+    .answer .given .1) in
+    let all = all-told (at-start .args .pass) (at-start .args .out .now) (at-start .args .t) _ (at-start .pre .5) (first
+    .1) (first .0) (stop .1) in
     (rw (c .stopped .ensures, at-refusal-number .refusal-number .ensures, all .0, stop .0), all .1)
 
 enum-told : tie.Need-enum-told Inv-loop μ-loop
@@ -198,7 +221,8 @@ add-at c =
     let at-start = at-loop .before .before .before .before .before .before .before .before .before in
     let room =
     place-room (at-start .args .e) (at-start .args .m) (at-start .args .q .now) (at-loop .loop .k) (at-loop .loop .at) _ _
-    (at-loop-test .loop-test .taken) (at-number-at .number-at .ensures) (at-number-at2 .number-at2 .ensures) (at-loop .loop .inv .2 .going .0) in
+    (at-loop-test .loop-test .taken) (at-number-at .number-at .ensures) (at-number-at2 .number-at2 .ensures) (at-loop
+    .loop .inv .2 .going .0) in
     omega (arith, at-start .pre .1, room)
 
 add-k : tie.Need-add-k Inv-loop μ-loop
@@ -220,14 +244,20 @@ loop-again c =
     let at-loop = at-loop-test .before in
     let at-tokens-at = at-loop .before .before .before .before .before .before in
     let at-start = at-tokens-at .before .before .before in
-    
     let told = at-tell-equation .tell-equation .ensures in
-    let most = equation-most (at-loop .loop .k + 1) (at-equation .equation .result .answer) (good-next (at-start .args .pass) (at-start .args .e) (at-start .args .m) (at-start .args .q .now) (at-start .args .t) _ _ (at-loop .loop .out) (at-loop .loop .end) (at-loop .loop .u) (at-loop .loop .at) (at-loop .loop .k) _ _
-    (at-loop-test .loop-test .taken) (at-number-at .number-at .ensures) (at-number-at2 .number-at2 .ensures) (at-loop .loop .inv .2) (at-tokens-at .tokens-at .ensures) (at-equation .equation .ensures)) in (
+    let most = equation-most (at-loop .loop .k + 1) (at-equation .equation .result .answer) (good-next
+    (at-start .args .pass) (at-start .args .e) (at-start .args .m) (at-start .args .q .now) (at-start .args .t) _ _
+    (at-loop .loop .out) (at-loop .loop .end) (at-loop .loop .u) (at-loop .loop .at) (at-loop .loop .k) _ _
+    (at-loop-test .loop-test .taken) (at-number-at .number-at .ensures) (at-number-at2 .number-at2 .ensures) (at-loop
+    .loop .inv .2) (at-tokens-at .tokens-at .ensures) (at-equation .equation .ensures)) in (
       omega (arith, at-loop-test .loop-test .taken),
       omega (arith, told .0, most, at-loop .loop .inv .1),
-      saying-step (at-start .args .pass) (at-start .args .e) (at-start .args .m) (at-start .args .q .now) (at-start .args .t) _ _ (at-loop .loop .out) (at-loop .loop .end) (at-loop .loop .u) (at-loop .loop .at) (at-loop .loop .k) _ _
-    (at-loop-test .loop-test .taken) (at-number-at .number-at .ensures) (at-number-at2 .number-at2 .ensures) (at-loop .loop .inv .2) (at-tokens-at .tokens-at .ensures) (at-equation .equation .ensures) (told .1) (told .0) (c .enum-told .given .1),
+      saying-step (at-start .args .pass) (at-start .args .e) (at-start .args .m) (at-start .args .q .now) (at-start
+          .args .t) _ _ (at-loop .loop .out) (at-loop .loop .end) (at-loop .loop .u) (at-loop .loop .at) (at-loop .loop
+          .k) _ _
+          (at-loop-test .loop-test .taken) (at-number-at .number-at .ensures) (at-number-at2 .number-at2 .ensures) (at-loop
+          .loop .inv .2) (at-tokens-at .tokens-at .ensures) (at-equation .equation .ensures) (told .1) (told .0) (c .enum-told
+          .given .1),
     )
 
 stopped-requires-2 : tie.Need-stopped-requires-2 Inv-loop μ-loop
@@ -244,14 +274,20 @@ returns-2 c =
     let at-loop = at-loop-test .before in
     let at-tell-first = at-loop .before .before .before in
     let at-start = at-tell-first .before .before .before .before .before .before in
-    
     let first = at-tell-first .tell-first .ensures in
     let d : at-loop .loop .k ≡ at-start .args .e = omega (arith, at-loop-test .loop-test .left, at-loop .loop .inv .0) in
-    let stop = saying-end (at-start .args .pass) (at-start .args .e) (at-start .args .m) (at-start .args .q .now) (at-start .args .t) _ _ (at-loop .loop .out) (at-loop .loop .end)
+    let stop = saying-end (at-start .args .pass) (at-start .args .e) (at-start .args .m) (at-start .args .q .now)
+    (at-start .args .t) _ _ (at-loop .loop .out) (at-loop .loop .end)
     (at-loop .loop .u) (at-loop .loop .at) (at-loop .loop .k) d (at-loop .loop .inv .2) in
-    let all = all-told (at-start .args .pass) (at-start .args .out .now) (at-start .args .t) _ (at-start .pre .5) (first .1) (first .0) (stop .1) in
+    let all = all-told (at-start .args .pass) (at-start .args .out .now) (at-start .args .t) _ (at-start .pre .5) (first
+    .1) (first .0) (stop .1) in
     (rw (c .stopped2 .ensures, all .0, stop .0), all .1)
 
 pub tell-spec : {M : Type 1} → statement M
 tell-spec = tie.close
-    (tie.spec Inv-loop μ-loop mul-tokens-at add-tokens-at tokens-at-requires slice-aggregate-tokens tell-first-requires loop-holds mul-number-at add-number-at number-at-requires cast-x mul-number-at-2 add-number-at-2 mul-number-at-3 add-number-at-3 number-at-requires-2 cast-n add-equation mul-equation sub-equation part-equation-start part-equation-end equation-requires cast-tell-equation add-tell-equation tell-equation-requires enum-known-answer refusal-number-requires stopped-requires same-length returns enum-told add-at add-k loop-less loop-again stopped-requires-2 same-length-2 returns-2)
+    (tie.spec Inv-loop μ-loop mul-tokens-at add-tokens-at tokens-at-requires slice-aggregate-tokens tell-first-requires
+    loop-holds mul-number-at add-number-at number-at-requires cast-x mul-number-at-2 add-number-at-2 mul-number-at-3
+    add-number-at-3 number-at-requires-2 cast-n add-equation mul-equation sub-equation part-equation-start
+    part-equation-end equation-requires cast-tell-equation add-tell-equation tell-equation-requires
+    enum-known-answer refusal-number-requires stopped-requires same-length returns enum-told add-at add-k
+    loop-less loop-again stopped-requires-2 same-length-2 returns-2)

@@ -2,11 +2,11 @@ use mathlib.Core.List.{_∷_}
 use native.Mathlib.Omega.{arith}
 use Rattle.tables.specs.Refusals.{refusal-number}
 use Rattle.text.proofs.Writing.{decimal-most, line-length}
-use Rattle.report.specs.Lines.{eq, refused, equation-text}
-use Rattle.report.proofs.Telling.{as-measured, as-written, code-small}
+use Rattle.run_text.specs.Lines.{eq, refused, equation-text}
+use Rattle.run_text.proofs.Telling.{as-measured, as-written, code-small}
 use borrow.Author.Needs.{needs}
-use Rattle.report.proofs.tell_refused.Statement.{statement}
-use Rattle.report.proofs.tell_refused.Tie as tie
+use Rattle.run_text.proofs.tell_refused.Statement.{statement}
+use Rattle.run_text.proofs.tell_refused.Tie as tie
 
 refusal-number-requires : tie.Need-refusal-number-requires
 refusal-number-requires c κs = search needs
@@ -18,7 +18,14 @@ add-end : tie.Need-add-end
 add-end c =
     let at-refusal-number = c .before in
     let at-start = at-refusal-number .before .before in
-    omega (arith, at-start .pre .0, c .line-length .ensures, decimal-most (at-start .args .k), decimal-most (at-refusal-number .refusal-number .result))
+    omega (
+      arith,
+      at-start .pre .0,
+      c .line-length .ensures,
+      decimal-most (at-start .args .k),
+      decimal-most
+          (at-refusal-number .refusal-number .result),
+    )
 
 enum-told : tie.Need-enum-told
 enum-told c = search needs
@@ -38,8 +45,12 @@ put-line-requires c κs =
     let at-enum-told2 = c .before .before .before in
     let at-refusal-number = at-enum-told2 .before .before .before in
     let at-start = at-refusal-number .before .before in
-    let room = at-start .pre .2 (at-enum-told2 .enum-told2 .given .1) in
-    (at-start .pre .1, rw (at-refusal-number .refusal-number .ensures) (code-small (at-start .args .r)), rw (at-refusal-number .refusal-number .ensures) room)
+    let room = at-start .pre .2 (at-enum-told2 .enum-told2 .given .1) in (
+      at-start .pre .1,
+      rw (at-refusal-number .refusal-number .ensures) (code-small (at-start .args .r)),
+      rw
+          (at-refusal-number .refusal-number .ensures) room,
+    )
 
 returns : tie.Need-returns
 unfolding equation-text
@@ -47,8 +58,10 @@ returns c =
     let at-line-length = c .before .before in
     let at-refusal-number = at-line-length .before in
     let at-start = at-refusal-number .before .before in
-    let own = line-length eq (32 ∷ refused) (at-start .args .k) (refusal-number (at-start .args .r)) in
-    (rw (at-line-length .line-length .ensures, at-refusal-number .refusal-number .ensures) (omega (arith, own)), as-measured (c .enum-told .given .1) _ _ _)
+    let own = line-length eq (32 ∷ refused) (at-start .args .k) (refusal-number (at-start .args .r)) in (
+      rw (at-line-length .line-length .ensures, at-refusal-number .refusal-number .ensures) (omega (arith, own)),
+      as-measured (c .enum-told .given .1) _ _ _,
+    )
 
 same-length : tie.Need-same-length
 same-length c = c .before .before .put-line .kept .0
@@ -63,9 +76,11 @@ returns-2 c =
     let at-start = at-refusal-number .before .before in
     let own = line-length eq (32 ∷ refused) (at-start .args .k) (refusal-number (at-start .args .r)) in (
       rw (at-line-length .line-length .ensures, at-refusal-number .refusal-number .ensures) (omega (arith, own)),
-      rw (at-put-line .put-line .ensures, at-refusal-number .refusal-number .ensures) (as-written (at-enum-told2 .enum-told2 .given .1) (at-start .args .out .now) _ (at-start .args .at)),
+      rw (at-put-line .put-line .ensures, at-refusal-number .refusal-number .ensures) (as-written
+          (at-enum-told2 .enum-told2 .given .1) (at-start .args .out .now) _ (at-start .args .at)),
     )
 
 pub tell-refused-spec : {M : Type 1} → statement M
 tell-refused-spec = tie.close
-    (tie.spec refusal-number-requires line-length-requires add-end enum-told enum-told-2 slice-aggregate-put-line slice-aggregate-put-line-2 put-line-requires returns same-length returns-2)
+    (tie.spec refusal-number-requires line-length-requires add-end enum-told enum-told-2 slice-aggregate-put-line
+    slice-aggregate-put-line-2 put-line-requires returns same-length returns-2)

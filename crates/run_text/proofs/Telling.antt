@@ -1,14 +1,11 @@
 -- Texts told part after part, in either pass. Assumes nothing.
 use mathlib.Core.Path.{_≡_, refl, sym, ap, _∙_}
-use mathlib.Core.Bool.{false}
 use mathlib.Core.List.{List, [], _∷_, _++_}
 use Prim.Native.Nat.{ℕ, _+_, _*_, _≤_, _<_}
 use native.Mathlib.Nat.{mul-le-mul}
 use native.Mathlib.Omega.{arith}
-use borrow.Author.Tests.{le-leb, lt-leb}
-use lib.Dec.{eqb}
-use lib.ListN.{length, drop, length-append, set}
-use lib.Seq.{sets, sets-eq, length-sets}
+use lib.ListN.{length, length-append}
+use lib.Seq.{sets, length-sets}
 use Rattle.tables.specs.declared.Table.{Table}
 use Rattle.tables.specs.declared.Refusal.{Refusal}
 use Rattle.tables.specs.declared.Refusal.the-variants as R
@@ -18,16 +15,12 @@ use Rattle.tables.specs.Refusals.{refusal-number}
 use Rattle.tables.specs.Values.{entries-of, GoodTable}
 use Rattle.tables.proofs.Checking.{width-most}
 use Rattle.codec.proofs.Laws.{sets-append}
-use Rattle.text.specs.Text.{newline, decimal, line, entries-text}
+use Rattle.text.specs.Text.{decimal, line, entries-text}
 use Rattle.text.proofs.Writing.{decimal-most, line-length, good-few, entries-length}
-use Rattle.report.specs.declared.Pass.{Pass}
-use Rattle.report.specs.declared.Pass.the-variants.{Measure, Write}
-use Rattle.report.specs.Lines.{eq, entries, refused, block, equation-text, refused-text}
-use Rattle.report.specs.Passes.{Room, passed}
-use Rattle.running.specs.declared.Running.{Running}
-use Rattle.running.specs.States.{none-applied}
-use Rattle.report.specs.declared.Reported.{Reported}
-use Rattle.report.specs.Reports.{narrowed, told, fitted}
+use Rattle.run_text.specs.declared.Pass.{Pass}
+use Rattle.run_text.specs.declared.Pass.the-variants.{Measure, Write}
+use Rattle.run_text.specs.Lines.{eq, entries, refused, block, equation-text}
+use Rattle.run_text.specs.Passes.{Room, passed}
 
 -- ---- Part after part
 
@@ -121,21 +114,6 @@ pub block-written : (out word : List ℕ) (a at : ℕ) (t : Table) {here : ℕ} 
 unfolding block
 block-written out word a at t e = rw e (sym (sets-append (line word a entries (t .n)) (entries-text (entries-of t)) out at))
 
--- ---- Refusals
-
-pub code-positive : (r : Refusal) → eqb (refusal-number r) 0 ≡ false
-code-positive R.Torn = refl
-code-positive R.Width = refl
-code-positive R.Entries = refl
-code-positive R.Stray = refl
-code-positive R.Name = refl
-code-positive R.Term = refl
-code-positive R.Long = refl
-code-positive R.Full = refl
-code-positive R.Narrow = refl
-code-positive R.Unlike = refl
-code-positive R.Keep = refl
-
 pub code-small : (r : Refusal) → refusal-number r < 1000
 code-small R.Torn = omega arith
 code-small R.Width = omega arith
@@ -148,41 +126,3 @@ code-small R.Full = omega arith
 code-small R.Narrow = omega arith
 code-small R.Unlike = omega arith
 code-small R.Keep = omega arith
-
-module _ (code : ℕ) where
-  pub refused-length : length (refused-text code) ≡ 8 + length (decimal code) + 1
-  unfolding refused-text
-  refused-length = omega (arith, length-append (decimal code) (newline ∷ []))
-
-  -- its parts written one after another
-  pub refused-written : (out : List ℕ) {end : ℕ} → end ≡ 8 + length (decimal code)
-      → set (sets (sets out 0 refused) 8 (decimal code)) end newline ≡ sets out 0 (refused-text code)
-  unfolding refused-text
-  refused-written out e =
-      rw e (sym (sets-append refused (decimal code ++ (newline ∷ [])) out 0 ∙ sets-append (decimal code) (newline ∷ []) _ 8))
-
--- ---- What is returned, and what is written
-
-module _ (s : Running) (text out : List ℕ) where
-  pub told-fits : length text ≤ length out → record { state = s; length = length text } ≡ told s text out
-  unfolding told
-  told-fits h = rw (le-leb (length text) (length out) h)
-
-  pub told-narrow : length out < length text → record { state = narrowed s; length = 0 } ≡ told s text out
-  unfolding told
-  told-narrow h = rw (lt-leb (length text) (length out) h)
-
-module _ (text out : List ℕ) where
-  pub fitted-fits : length text ≤ length out → sets out 0 text ≡ fitted text out
-  unfolding fitted
-  fitted-fits h =
-      let e : 0 + length text ≡ length text = omega arith in
-      rw (le-leb (length text) (length out) h) (sets-eq text out 0 (omega (arith, h)) ∙ ap (λ (k : ℕ). text ++ drop k out) e)
-
-  pub fitted-narrow : length out < length text → out ≡ fitted text out
-  unfolding fitted
-  fitted-narrow h = rw (lt-leb (length text) (length out) h)
-
-pub narrowed-none : (r : Refusal) → none-applied (refusal-number r) 0 ≡ narrowed (none-applied (refusal-number r) 0)
-unfolding narrowed
-narrowed-none r = rw (code-positive r)

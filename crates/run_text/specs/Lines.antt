@@ -6,7 +6,7 @@ use Rattle.tables.specs.declared.Answer.{Answer}
 use Rattle.tables.specs.declared.Answer.the-variants.{Accepted, Refused}
 use Rattle.tables.specs.Refusals.{refusal-number}
 use Rattle.tables.specs.Values.{entries-of}
-use Rattle.text.specs.Text.{newline, decimal, line, entries-text}
+use Rattle.text.specs.Text.{line, entries-text}
 
 -- ---- Words
 
@@ -41,7 +41,3 @@ first-text t = block vars (t .l) t
 unfoldable pub equation-text : ℕ → Answer → Table → List ℕ
 equation-text k Accepted t = block eq k t
 equation-text k (Refused r) t = line eq k (32 ∷ refused) (refusal-number r)
-
--- Of an input that is refused: only the number.
-unfoldable pub refused-text : ℕ → List ℕ
-refused-text code = refused ++ (decimal code ++ (newline ∷ []))

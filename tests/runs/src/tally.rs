@@ -1,0 +1,78 @@
+//! What was answered how often.
+
+use reference::report::Report;
+use reference::VARIABLES;
+
+/// The words of 01 for the refusals 1 to 8.
+const WORDS: [&str; 8] = [
+    "torn", "width", "entries", "stray", "name", "term", "long", "full",
+];
+
+/// The counts of some reports.
+#[derive(Default)]
+pub struct Tally {
+    /// By number; 0 is an accepted run.
+    numbers: [usize; 9],
+    /// Full runs that had an accepted equation.
+    later: usize,
+    /// Accepted runs with at least one equation.
+    applied: usize,
+    /// The widths of accepted runs, bit l-1 for l.
+    widths: u32,
+    longest: usize,
+}
+
+impl Tally {
+    /// Counts one report.
+    pub fn enter(&mut self, report: &Report) {
+        let outcome = &report.outcome;
+        self.numbers[outcome.code as usize] += 1;
+        let applied = usize::from(outcome.applied > 0);
+        match outcome.code {
+            0 => {
+                self.applied += applied;
+                self.widths |= 1 << (outcome.table.l - 1);
+            }
+            8 => self.later += applied,
+            _ => {}
+        }
+        self.longest = self.longest.max(report.text.len());
+    }
+
+    /// Prints the counts.
+    pub fn print(&self) {
+        let Tally {
+            numbers,
+            later,
+            applied,
+            ..
+        } = self;
+        println!("accepted          {:>5}, {applied} with equations", numbers[0]);
+        for (word, number) in WORDS.iter().zip(1..) {
+            let count = numbers[number];
+            let more = match number {
+                8 => format!(", {later} after an accepted equation"),
+                _ => String::new(),
+            };
+            println!("refused {number} {word:<8}{count:>5}{more}");
+        }
+        println!("longest text      {:>5} bytes", self.longest);
+    }
+
+    /// What never occurred and should have: an empty list where all did.
+    pub fn complaints(&self) -> Vec<String> {
+        let mut complaints = Vec::new();
+        for (word, number) in WORDS.iter().zip(1..) {
+            if self.numbers[number] == 0 {
+                complaints.push(format!("{number} ({word}) was never answered"));
+            }
+        }
+        if self.widths.count_ones() != VARIABLES {
+            complaints.push("some width was never accepted".into());
+        }
+        if self.applied == 0 || self.later == 0 {
+            complaints.push("no equation was accepted, or none before a full one".into());
+        }
+        complaints
+    }
+}
