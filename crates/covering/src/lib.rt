@@ -14,7 +14,8 @@ ghost use Rattle.model.specs.Tables.{Side, positive, negative};
 ghost use Rattle.model.specs.Questions.{equal as equal-lists, ground, independent};
 ghost use Rattle.words.specs.Words.{word, set-word};
 ghost use Rattle.tables.specs.Lists.{Holds};
-ghost use Rattle.lists.specs.Lists.{OfString, HoldsKeys};
+ghost use Rattle.lists.specs.Lists.{OfString};
+ghost use Rattle.keys.specs.Keys.{HoldsKeys};
 ghost use Rattle.covering.specs.Covering.{Forces, Nearest, agreed as agreed-string, all-covered, within};
 ghost use Rattle.covering.specs.Covering.{greatest, first-string, apart};
 
@@ -194,7 +195,7 @@ fn covered_keyed(
         ⌝ }
 {
     if l <= 16 {
-        if lists::key_subsumed(keys, n, words::key(y)) {
+        if keys::key_subsumed(keys, n, words::key(y)) {
             return true;
         }
     }
@@ -218,7 +219,7 @@ fn included(
         ⌝ }
 {
     let mut keys = [0u32; 256];
-    lists::write_keys(bcare, bvalue, bn, &mut keys);
+    keys::write_keys(bcare, bvalue, bn, &mut keys);
     let mut i = 0;
     while i < an {
         let y = Entry {

@@ -3,7 +3,4 @@ pub mod Growing
 pub mod Widening
 pub mod Toward
 pub mod Converting
-pub mod Idle
-pub mod Keyed
-pub mod Passing
 pub mod Answering

@@ -124,7 +124,7 @@ pub fn positive(
             &mut kcare,
             &mut kvalue,
         ) {
-            Grown::Count(k) => lists::grow_each(care, value, n, l, &kcare, &kvalue, k),
+            Grown::Count(k) => growing::grow_each(care, value, n, l, &kcare, &kvalue, k),
             Grown::Full => Grown::Full,
         },
         Grown::Full => Grown::Full,
@@ -227,7 +227,7 @@ fn lacking(
     let k = candidates::ones_row(m, l, &mut rcare, &mut rvalue);
     *care = *tcare;
     *value = *tvalue;
-    lists::grow_each(care, value, tn, l, &rcare, &rvalue, k)
+    growing::grow_each(care, value, tn, l, &rcare, &rvalue, k)
 }
 
 // Equation, negative, for x alone in mx and t's variables in mt.

@@ -32,7 +32,7 @@ pub fn positive(
     let mut rvalue = [0u32; 256];
     let n = candidates::cut_row(tcare, tvalue, tn, keep, &mut rcare, &mut rvalue);
     let l = u32::count_ones(keep);
-    lists::grow_each(care, value, 0, l, &rcare, &rvalue, n)
+    growing::grow_each(care, value, 0, l, &rcare, &rvalue, n)
 }
 
 // Projection, negative, of strings of l positions: by way of positive.

@@ -149,7 +149,7 @@ fn join_list(
         Side::Positive => {
             *care = *acare;
             *value = *avalue;
-            lists::grow_each(care, value, an, l, bcare, bvalue, bn)
+            growing::grow_each(care, value, an, l, bcare, bvalue, bn)
         }
         Side::Negative => procedures::meets(acare, avalue, an, bcare, bvalue, bn, l, care, value),
     }

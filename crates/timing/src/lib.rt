@@ -80,7 +80,7 @@ pub extern "C" fn timing_grow(
     if !((n <= 256) & (l <= 32) & (m <= 256)) {
         return 258;
     }
-    match lists::grow_all(care, value, n, l, ycare, yvalue, m) {
+    match growing::grow_all(care, value, n, l, ycare, yvalue, m) {
         Grown::Count(k) => k,
         Grown::Full => 257,
     }

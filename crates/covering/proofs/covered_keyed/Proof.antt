@@ -1,6 +1,6 @@
 use mathlib.Core.Path.{sym, _∙_}
 use borrow.Author.Needs.{needs}
-use Rattle.lists.proofs.Keyed.{keys-subsumed}
+use Rattle.keys.proofs.Keyed.{keys-subsumed}
 use Rattle.covering.proofs.Forcing.{covered-subsumed}
 use Rattle.covering.proofs.covered_keyed.Statement.{statement}
 use Rattle.covering.proofs.covered_keyed.Tie as tie
