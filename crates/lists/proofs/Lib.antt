@@ -4,3 +4,4 @@ pub mod Widening
 pub mod Toward
 pub mod Converting
 pub mod Answering
+pub mod Steps

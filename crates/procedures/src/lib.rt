@@ -1,10 +1,6 @@
-// The procedures of 01 on working lists, of both sides. Inner: not a public call.
+// The procedures of 01 on working lists: meets, relevant, irrelevant, cross and close. Inner: not a public call.
 // Each makes its result in two lent arrays that hold no string yet, unless a comment says otherwise; where the result is full,
 // nothing is said of the arrays. Candidates are written as a row and then grown, so that a row can be passed over by blocks.
-pub mod equations;
-pub mod projections;
-pub mod sides;
-
 use lists::Grown;
 use words::Entry;
 ghost use mathlib.Core.Path.{_≡_};

@@ -1,9 +1,6 @@
 // The operations on table values, of both sides: conversion, equation, join, projection and change of side.
 // A refusal returns the table as given; of two tables, the first.
 use lists::Grown;
-use procedures::equations;
-use procedures::projections;
-use procedures::sides;
 use tables::Answer;
 use tables::Answered;
 use tables::Refusal;
@@ -20,7 +17,7 @@ ghost use Rattle.words.specs.Words.{set-word};
 ghost use Rattle.tables.specs.Lists.{Holds};
 ghost use Rattle.lists.specs.Lists.{Makes};
 ghost use Rattle.tables.specs.Values.{refuses, made-or-full, GoodTable, entries-of};
-ghost use Rattle.procedures.specs.Parts.{OfSets};
+ghost use Rattle.equations.specs.Parts.{OfSets};
 ghost use Rattle.sharing.specs.Calls.{side-of, side-told, convert-call, equation-call, join-call, projection-call};
 ghost use Rattle.sharing.specs.Calls.{change-side-call};
 
