@@ -35,7 +35,8 @@ use Rattle.forms.specs.Tables.{table-length, read-table, table-form, write-answ
 use Rattle.forms.proofs.Reading.{read-good}
 use Rattle.forms.proofs.Back.{form-length, written-reads, written-front}
 use Rattle.byte_calls.specs.Calls.{tokens-of, term-call, after-read, change-side-bytes, equation-bytes, join-bytes}
-use Rattle.byte_calls.specs.Calls.{projection-bytes, put-checked, put-answer, put-bytes}
+use Rattle.byte_calls.specs.Calls.{projection-bytes}
+use Rattle.outputs.specs.Outputs.{put-checked, put-answer, put-bytes}
 use Rattle.analyser.proofs.Equations.{accepted-exact}
 use Rattle.analyser.proofs.ByBytes.{Reads, term-accepted}
 

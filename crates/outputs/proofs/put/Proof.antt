@@ -1,7 +1,7 @@
 use borrow.Author.Needs.{needs}
-use Rattle.byte_calls.proofs.Going.{put-refused, put-went}
-use Rattle.byte_calls.proofs.put.Statement.{statement}
-use Rattle.byte_calls.proofs.put.Tie as tie
+use Rattle.outputs.proofs.Putting.{put-refused, put-went}
+use Rattle.outputs.proofs.put.Statement.{statement}
+use Rattle.outputs.proofs.put.Tie as tie
 
 enum-known-answer : tie.Need-enum-known-answer
 enum-known-answer c = search needs

@@ -2,10 +2,10 @@ use mathlib.Core.Path.{sym}
 use native.Mathlib.Omega.{arith}
 use borrow.Author.Needs.{needs}
 use lib.Seq.{length-take-le}
-use Rattle.byte_calls.specs.Parts.{lent}
-use Rattle.byte_calls.proofs.Fewer.{front-room, first-unread, second-unread, unlike, fewer-negative, fewer-positive}
-use Rattle.byte_calls.proofs.smaller.Statement.{statement}
-use Rattle.byte_calls.proofs.smaller.Tie as tie
+use Rattle.outputs.specs.Parts.{lent}
+use Rattle.outputs.proofs.Fewer.{front-room, first-unread, second-unread, unlike, fewer-negative, fewer-positive}
+use Rattle.outputs.proofs.smaller.Statement.{statement}
+use Rattle.outputs.proofs.smaller.Tie as tie
 
 read-table-requires : tie.Need-read-table-requires
 read-table-requires c κs = search needs

@@ -1,7 +1,7 @@
 use borrow.Author.Needs.{needs}
-use Rattle.byte_calls.specs.Calls.{reply-number, reply-word}
-use Rattle.byte_calls.proofs.tell.Statement.{statement}
-use Rattle.byte_calls.proofs.tell.Tie as tie
+use Rattle.outputs.specs.Outputs.{reply-number, reply-word}
+use Rattle.outputs.proofs.tell.Statement.{statement}
+use Rattle.outputs.proofs.tell.Tie as tie
 
 enum-told : tie.Need-enum-told
 enum-told c = search needs

@@ -13,7 +13,7 @@ use Rattle.tables.specs.Values.{accepts}
 use Rattle.forms.specs.declared.Extent.the-variants.{Front}
 use Rattle.forms.specs.Tables.{sized, second-size, table-length, fits, read-table}
 use Rattle.forms.proofs.Tests.{reads-passed}
-use Rattle.byte_calls.specs.Parts.{Part, front, form, if-both, smaller-part}
+use Rattle.outputs.specs.Parts.{Part, front, form, if-both, smaller-part}
 
 -- what a form that reads at the front of a buffer has
 pub front-room : (b : List ℕ) {a : Answered} → a ≡ read-table Front b → a .answer ≡ Accepted
