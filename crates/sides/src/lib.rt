@@ -6,7 +6,7 @@ ghost use mathlib.Core.Path.{_≡_};
 ghost use mathlib.Core.List.{[]};
 ghost use Prim.Native.Nat.{_≤_};
 ghost use lib.ListN.{length};
-ghost use Rattle.model.specs.Strings.{Trits, pieces};
+ghost use Rattle.model.specs.Strings.{Trits};
 ghost use Rattle.model.specs.Growth.{fold, Entries, widen-grow};
 ghost use Rattle.model.specs.Tables.{take-away, change-side};
 ghost use Rattle.words.specs.Words.{word};
