@@ -12,7 +12,7 @@ use Rattle.model.proofs.Strings.{exactly-length}
 use Rattle.words.specs.Words.{word, key-of}
 use Rattle.words.specs.Words as W
 use Rattle.words.proofs.Codec.{set-length, set-word-set}
-use Rattle.lists.proofs.Converting.{group-word}
+use Rattle.words.proofs.Codec.{group-word}
 use Rattle.keys.specs.Keys.{ZeroKey}
 
 zero-exactly : (l : ℕ) → all-zero (exactly (W.set l 0)) ≡ true

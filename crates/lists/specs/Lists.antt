@@ -1,24 +1,16 @@
 -- What a working list is grown to.
 use mathlib.Core.Path.{_≡_}
-use mathlib.Core.Bool.{Bool, true, _&&_}
-use mathlib.Core.List.{List, [], _∷_}
+use mathlib.Core.List.{List}
 use mathlib.Core.Option.{Option, some, none}
-use Prim.Native.Nat.{ℕ, _≤_, _^_}
-use lib.Dec.{ltb}
+use Prim.Native.Nat.{ℕ, _≤_}
 use lib.ListN.{length}
-use Rattle.model.specs.Groups.{Bits, or}
 use Rattle.model.specs.Strings.{Trits}
 use Rattle.model.specs.Growth.{Entries, limit}
 use Rattle.words.specs.declared.Entry.{Entry}
-use Rattle.words.specs.Words.{word, openings}
+use Rattle.words.specs.Words.{word}
 use Rattle.tables.specs.Lists.{Holds}
 use Rattle.lists.specs.declared.Grown.{Grown}
 use Rattle.lists.specs.declared.Grown.the-variants.{Count, Full}
-
--- The positions of y that some entry opens: those fixed positions at which y with that value flipped is subsumed by one entry.
-unfoldable pub open-set : Entries → Trits → Bits
-open-set [] y = []
-open-set (e ∷ τ) y = or (openings e y) (open-set τ y)
 
 -- P of any list of strings of l positions that the arrays hold, and any string whose words are y.
 abbrev pub OfString : (l : ℕ) (care value : List ℕ) (n : ℕ) → Entry → (Entries → Trits → Type 0) → Type 0
@@ -38,8 +30,3 @@ pub data Makes (l : ℕ) (care value : List ℕ) : Grown → Option Entries → 
 pub data Leaves (l : ℕ) (care₀ value₀ care value : List ℕ) : Grown → Option Entries → Type 0 where
   made : {n : ℕ} {τ : Entries} → Holds l care value n τ → Leaves l care₀ value₀ care value (Count n) (some τ)
   refused : care ≡ care₀ → value ≡ value₀ → Leaves l care₀ value₀ care value Full none
-
--- No word has a bit above l.
-unfoldable pub all-below : ℕ → List ℕ → Bool
-all-below l [] = true
-all-below l (w ∷ ws) = ltb w (2 ^ l) && all-below l ws

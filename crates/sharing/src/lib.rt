@@ -54,12 +54,12 @@ pub fn convert(l: u32, words: &[u32]) -> Answered
     if !tables::good_width(l) {
         return tables::refused(Refusal::Width);
     }
-    if !lists::all_below(l, words) {
+    if !conversion::all_below(l, words) {
         return tables::refused(Refusal::Stray);
     }
     let mut care = [0u32; 256];
     let mut value = [0u32; 256];
-    let g = lists::convert(&mut care, &mut value, l, words);
+    let g = conversion::convert(&mut care, &mut value, l, words);
     lists::made_or_full(l, Table::zero(), g, &care, &value)
 }
 

@@ -39,7 +39,7 @@ fn widen_each(
             care: ycare[j],
             value: yvalue[j],
         };
-        let z = lists::widen(care, value, k, l, y);
+        let z = conversion::widen(care, value, k, l, y);
         match lists::grow(care, value, k, l, z) {
             Grown::Count(c) => {
                 k = c;

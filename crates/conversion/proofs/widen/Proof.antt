@@ -8,12 +8,12 @@ use Rattle.model.specs.Growth.{Entries}
 use Rattle.words.specs.Words.{word, string}
 use Rattle.words.proofs.Codec.{string-length}
 use Rattle.tables.specs.Lists.{Holds}
-use Rattle.lists.proofs.Widening.{Widened, widened-start, widened-few, widened-end, widened-none, widened-inside}
-use Rattle.lists.proofs.Widening.{widened-next, fixed-there}
-use Rattle.lists.proofs.Widening.{shifted, first-open}
+use Rattle.conversion.proofs.Widening.{Widened, widened-start, widened-few, widened-end, widened-none, widened-inside}
+use Rattle.conversion.proofs.Widening.{widened-next, fixed-there}
+use Rattle.conversion.proofs.Widening.{shifted, first-open}
 use borrow.Author.Needs.{needs}
-use Rattle.lists.proofs.widen.Statement.{statement}
-use Rattle.lists.proofs.widen.Tie as tie
+use Rattle.conversion.proofs.widen.Statement.{statement}
+use Rattle.conversion.proofs.widen.Tie as tie
 
 abbrev Inv-loop : tie.InvT-loop
 Inv-loop care value n l z₀ i₀ z i =

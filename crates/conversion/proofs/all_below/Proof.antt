@@ -3,11 +3,11 @@ use mathlib.Core.Bool.{_&&_}
 use Prim.Native.Nat.{_-_, _≤_}
 use native.Mathlib.Omega.{arith}
 use lib.ListN.{length, drop}
-use Rattle.lists.specs.Lists.{all-below}
-use Rattle.lists.proofs.Converting.{below-turn, below-end}
+use Rattle.conversion.specs.Conversion.{all-below}
+use Rattle.conversion.proofs.Converting.{below-turn, below-end}
 use borrow.Author.Needs.{needs}
-use Rattle.lists.proofs.all_below.Statement.{statement}
-use Rattle.lists.proofs.all_below.Tie as tie
+use Rattle.conversion.proofs.all_below.Statement.{statement}
+use Rattle.conversion.proofs.all_below.Tie as tie
 
 abbrev Inv-loop : tie.InvT-loop
 Inv-loop l words full good₀ i₀ good i = (i ≤ length words) × (all-below l words ≡ (good && all-below l (drop i words)))

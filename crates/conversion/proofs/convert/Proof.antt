@@ -7,14 +7,14 @@ use lib.ListN.{length, length-map}
 use Rattle.model.specs.Growth.{convert-one, convert}
 use Rattle.words.specs.Words.{set}
 use Rattle.tables.specs.Lists.{Holds}
 use Rattle.lists.specs.Lists.{refused}
-use Rattle.lists.specs.Lists.{all-below}
-use Rattle.lists.proofs.Converting.{row-word, row-length}
+use Rattle.conversion.specs.Conversion.{all-below}
+use Rattle.conversion.proofs.Converting.{row-word, row-length}
 use Rattle.lists.proofs.Toward.{Toward, toward-start, toward-step, toward-stop, toward-end, within-count}
 use Rattle.lists.proofs.Toward.{leaves-makes, makes-leaves}
 use borrow.Author.Needs.{needs}
-use Rattle.lists.proofs.convert.Statement.{statement}
-use Rattle.lists.proofs.convert.Tie as tie
+use Rattle.conversion.proofs.convert.Statement.{statement}
+use Rattle.conversion.proofs.convert.Tie as tie
 
 abbrev Inv-loop : tie.InvT-loop
 Inv-loop care₀ value₀ l words care-before value-before n₀ i₀ care value n i =

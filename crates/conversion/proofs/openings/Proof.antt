@@ -7,12 +7,12 @@ use Rattle.model.specs.Strings.{Trits}
 use Rattle.model.specs.Growth.{Entries}
 use Rattle.words.specs.Words.{word, set-word}
 use Rattle.tables.specs.Lists.{Holds}
-use Rattle.lists.specs.Lists.{open-set}
+use Rattle.conversion.specs.Conversion.{open-set}
 use Rattle.tables.proofs.Arrays.{holds-at, holds-length}
-use Rattle.lists.proofs.Widening.{open-turn, open-end}
+use Rattle.conversion.proofs.Widening.{open-turn, open-end}
 use borrow.Author.Needs.{needs}
-use Rattle.lists.proofs.openings.Statement.{statement}
-use Rattle.lists.proofs.openings.Tie as tie
+use Rattle.conversion.proofs.openings.Statement.{statement}
+use Rattle.conversion.proofs.openings.Tie as tie
 
 abbrev Inv-loop : tie.InvT-loop
 Inv-loop care value n y found₀ i₀ found i =

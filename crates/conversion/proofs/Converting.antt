@@ -13,10 +13,10 @@ use lib.Seq.{drop-cons}
 use Rattle.model.specs.Groups.{Bits}
 use Rattle.model.specs.Strings.{exactly}
 use Rattle.model.specs.Growth.{Entries, grow, widen, widen-grow, convert-one}
-use Rattle.words.specs.Words.{word, set, set-word}
-use Rattle.words.proofs.Codec.{nonzero-word, exactly-word, set-length, set-word-set}
+use Rattle.words.specs.Words.{set, set-word}
+use Rattle.words.proofs.Codec.{nonzero-word, set-length, set-word-set}
 use Rattle.tables.proofs.Tests.{below-full, both-true}
-use Rattle.lists.specs.Lists.{all-below}
+use Rattle.conversion.specs.Conversion.{all-below}
 
 -- ---- No bit above l
 
@@ -54,11 +54,6 @@ pub row-length : (l : ℕ) (ws : List ℕ) (i : ℕ) → length (getD (map (set 
 row-length l ws i = ap length (row-at l ws i) ∙ set-length l (getD ws i 0)
 
 -- ---- One word
-
--- all l bits of care with the word of a group are the words of the string that covers just that group
-pub group-word : (g : Bits) (full w l : ℕ) → length g ≡ l → full ≡ 2 ^ l - 1 → w ≡ set-word g
-    → record { care = full; value = w } ≡ word (exactly g)
-group-word g full w l e f is = rw (f, is, ← e) (sym (exactly-word g))
 
 module _ (τ : Entries) (g : Bits) (w : ℕ) (is : w ≡ set-word g) where
   pub skips : w ≡ 0 → convert-one τ g ≡ some τ

@@ -6,11 +6,12 @@ use Rattle.model.specs.Growth.{widen}
 use Rattle.model.proofs.Shape.{widen-length}
 use Rattle.model.proofs.Strings.{exactly-length}
 use Rattle.words.specs.Words.{word}
 use Rattle.lists.specs.Lists.{made}
-use Rattle.lists.proofs.Converting.{group-word, skips, converts}
+use Rattle.words.proofs.Codec.{group-word}
+use Rattle.conversion.proofs.Converting.{skips, converts}
 use borrow.Author.Needs.{needs}
-use Rattle.lists.proofs.convert_one.Statement.{statement}
-use Rattle.lists.proofs.convert_one.Tie as tie
+use Rattle.conversion.proofs.convert_one.Statement.{statement}
+use Rattle.conversion.proofs.convert_one.Tie as tie
 
 returns : tie.Need-returns
 returns c = (omega arith, λ τ g h e is. rw (skips τ g _ is (c .if1 .taken)) (made h))

@@ -23,7 +23,7 @@ use Rattle.words.specs.Words.{word, string, Encodes, set-word, openings}
 use Rattle.words.proofs.Codec.{string-length, string-of-word, set-word-or, set-word-drop, First, trailing-first, empty-none}
 use Rattle.words.proofs.OpeningLaws.{openings-at}
 use Rattle.tables.specs.Lists.{Holds}
-use Rattle.lists.specs.Lists.{open-set}
+use Rattle.conversion.specs.Conversion.{open-set}
 use Rattle.tables.proofs.Tests.{both-true}
 
 -- ---- The open positions
