@@ -21,7 +21,8 @@ use Rattle.forms.specs.declared.Extent.the-variants.{Whole}
 use Rattle.forms.specs.Tables.{first-size, second-size, read-table}
 use Rattle.forms.specs.Equations.{Written, check-equations, equations-of}
 use Rattle.forms.proofs.Reading.{read-good}
-use Rattle.byte_calls.specs.Calls.{tokens-of, term-call, put-answer, put-bytes}
+use Rattle.byte_calls.specs.Calls.{tokens-of, term-call}
+use Rattle.outputs.specs.Outputs.{put-answer, put-bytes}
 use Rattle.running.specs.declared.Running.{Running}
 use Rattle.running.specs.States.{state, after-answer, advanced, go-on, run-from, run-state}
 use Rattle.analyser.specs.Demand3.{equation-given, event-of, Returns, written, kept, Calls, end, value, bytes}

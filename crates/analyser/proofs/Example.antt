@@ -36,7 +36,8 @@ use Rattle.forms.specs.declared.Extent.the-variants.{Front}
 use Rattle.forms.specs.Tables.{table-length, read-table, table-form}
 use Rattle.forms.proofs.Back.{written-reads}
 use Rattle.forms.proofs.Outcomes.{write-fits}
-use Rattle.byte_calls.specs.Calls.{check-bytes, tokens-of, equation-bytes, put-checked, put-answer, put-bytes}
+use Rattle.byte_calls.specs.Calls.{check-bytes, tokens-of, equation-bytes}
+use Rattle.outputs.specs.Outputs.{put-checked, put-answer, put-bytes}
 use Rattle.analyser.specs.Demand3.{term-read, equation-given, event-of, Returns, written, Calls, value, bytes}
 use Rattle.analyser.specs.Demand3 as S
 use Rattle.analyser.proofs.Equations.{called, uncalled}

@@ -24,7 +24,7 @@ use Rattle.tables.specs.declared.Answer.the-variants.{Accepted, Refused}
 use Rattle.tables.specs.declared.Answered.{Answered}
 use Rattle.tables.specs.Values.{entries-of, accepts, refuses, made-or-full, good-width, check-table, GoodTable}
 use Rattle.tables.specs.Values.{zero-table}
-use Rattle.lists.specs.Lists.{all-below}
+use Rattle.conversion.specs.Conversion.{all-below}
 use Rattle.sharing.specs.Calls.{convert-call}
 use Rattle.tables.proofs.Values.{entries-of-table, table-of-good}
 use Rattle.tables.proofs.Tests.{both-true}
@@ -35,7 +35,8 @@ use Rattle.forms.specs.Tables.{table-length, read-table, table-form, write-answ
 use Rattle.forms.proofs.Reading.{read-good}
 use Rattle.forms.proofs.Back.{form-length, written-reads, written-front}
 use Rattle.byte_calls.specs.Calls.{tokens-of, term-call, after-read, change-side-bytes, equation-bytes, join-bytes}
-use Rattle.byte_calls.specs.Calls.{projection-bytes, put-checked, put-answer, put-bytes}
+use Rattle.byte_calls.specs.Calls.{projection-bytes}
+use Rattle.outputs.specs.Outputs.{put-checked, put-answer, put-bytes}
 use Rattle.analyser.proofs.Equations.{accepted-exact}
 use Rattle.analyser.proofs.ByBytes.{Reads, term-accepted}
 

@@ -19,7 +19,8 @@ use Rattle.sharing.specs.Calls.{side-told, equation-call}
 use Rattle.forms.specs.declared.Extent.the-variants.{Whole, Front}
 use Rattle.forms.specs.Tables.{read-table}
 use Rattle.forms.specs.Equations.{Written}
-use Rattle.byte_calls.specs.Calls.{tokens-of, term-call, equation-bytes, put-answer, put-bytes}
+use Rattle.byte_calls.specs.Calls.{tokens-of, term-call, equation-bytes}
+use Rattle.outputs.specs.Outputs.{put-answer, put-bytes}
 use Rattle.running.specs.declared.Running.{Running}
 use Rattle.running.specs.States.{advanced}
 

@@ -8,8 +8,9 @@ ghost use Rattle.sharing.specs.Calls.{side-told};
 ghost use Rattle.forms.specs.declared.Extent.the-variants.{Whole};
 ghost use Rattle.forms.specs.Tables.{read-table};
 ghost use Rattle.byte_calls.specs.Calls.{change-side-bytes, equation-bytes, join-bytes, projection-bytes, equal-bytes};
-ghost use Rattle.byte_calls.specs.Calls.{ground-bytes, independent-bytes, put-number, put-bytes, reply-number, reply-word};
-ghost use Rattle.byte_calls.specs.Parts.{lent, smaller-part};
+ghost use Rattle.byte_calls.specs.Calls.{ground-bytes, independent-bytes};
+ghost use Rattle.outputs.specs.Outputs.{put-number, put-bytes, reply-number, reply-word};
+ghost use Rattle.outputs.specs.Parts.{lent, smaller-part};
 ghost use Rattle.running.specs.States.{started, advanced, run-state, state-number, state-bytes};
 
 // Reads a form, which grows its entries, and writes it again.
@@ -18,7 +19,7 @@ pub extern "C" fn sharing_read(table: &[u8], out: &mut [u8]) -> u32
     ensures number { λ r. ⌜ r ≡ put-number (read-table Whole (now (table .entry))) (now (out .entry)) ⌝ }
     ensures bytes { λ r. ⌜ now (out .exit) ≡ put-bytes (read-table Whole (now (table .entry))) (now (out .entry)) ⌝ }
 {
-    byte_calls::put(forms::read_table(Extent::Whole, table), out)
+    outputs::put(forms::read_table(Extent::Whole, table), out)
 }
 
 // Converts groups, bit i - 1 for Xi, to a positive table.
@@ -27,7 +28,7 @@ pub extern "C" fn sharing_convert(l: u32, groups: &[u32], out: &mut [u8]) -> u32
     ensures number { λ r. ⌜ r ≡ put-number (convert-call l (now (groups .entry))) (now (out .entry)) ⌝ }
     ensures bytes { λ r. ⌜ now (out .exit) ≡ put-bytes (convert-call l (now (groups .entry))) (now (out .entry)) ⌝ }
 {
-    byte_calls::put(sharing::convert(l, groups), out)
+    outputs::put(sharing::convert(l, groups), out)
 }
 
 // Changes the side of a table.
@@ -40,7 +41,7 @@ pub extern "C" fn sharing_change_side(side: u32, table: &[u8], out: &mut [u8]) -
         now (out .exit) ≡ put-bytes (change-side-bytes (side-told side) (now (table .entry))) (now (out .entry))
         ⌝ }
 {
-    byte_calls::put(
+    outputs::put(
         byte_calls::change_side(sharing::side_numbered(side), table),
         out,
     )
@@ -63,7 +64,7 @@ pub extern "C" fn sharing_equation(
         ≡ put-bytes (equation-bytes (side-told side) (now (table .entry)) variable (now (term .entry))) (now (out .entry))
         ⌝ }
 {
-    byte_calls::put(
+    outputs::put(
         byte_calls::equation(sharing::side_numbered(side), table, variable, term),
         out,
     )
@@ -79,7 +80,7 @@ pub extern "C" fn sharing_join(side: u32, first: &[u8], second: &[u8], out: &mut
         now (out .exit) ≡ put-bytes (join-bytes (side-told side) (now (first .entry)) (now (second .entry))) (now (out .entry))
         ⌝ }
 {
-    byte_calls::put(
+    outputs::put(
         byte_calls::join(sharing::side_numbered(side), first, second),
         out,
     )
@@ -95,7 +96,7 @@ pub extern "C" fn sharing_project(side: u32, table: &[u8], keep: u32, out: &mut 
         now (out .exit) ≡ put-bytes (projection-bytes (side-told side) (now (table .entry)) keep) (now (out .entry))
         ⌝ }
 {
-    byte_calls::put(
+    outputs::put(
         byte_calls::project(sharing::side_numbered(side), table, keep),
         out,
     )
@@ -109,7 +110,7 @@ pub extern "C" fn sharing_equal(first: &[u8], second: &[u8], answer: &mut u32) -
         now (answer .exit) ≡ reply-word (equal-bytes (now (first .entry)) (now (second .entry))) (now (answer .entry))
         ⌝ }
 {
-    byte_calls::tell(byte_calls::equal(first, second), answer)
+    outputs::tell(byte_calls::equal(first, second), answer)
 }
 
 // Is a variable ground: has no group it?
@@ -120,7 +121,7 @@ pub extern "C" fn sharing_ground(side: u32, table: &[u8], variable: u32, answer:
         now (answer .exit) ≡ reply-word (ground-bytes (side-told side) (now (table .entry)) variable) (now (answer .entry))
         ⌝ }
 {
-    byte_calls::tell(
+    outputs::tell(
         byte_calls::ground(sharing::side_numbered(side), table, variable),
         answer,
     )
@@ -141,7 +142,7 @@ pub extern "C" fn sharing_independent(
         ≡ reply-word (independent-bytes (side-told side) (now (table .entry)) first second) (now (answer .entry))
         ⌝ }
 {
-    byte_calls::tell(
+    outputs::tell(
         byte_calls::independent(sharing::side_numbered(side), table, first, second),
         answer,
     )
@@ -157,7 +158,7 @@ pub extern "C" fn sharing_smaller<'a, 'b>(
 )
     ensures { λ _. ⌜ lent (now (part .exit)) ≡ smaller-part (lent (positive .entry)) (lent (negative .entry)) ⌝ }
 {
-    *part = byte_calls::smaller(positive, negative);
+    *part = outputs::smaller(positive, negative);
 }
 
 // Applies equations in order, after the whole input was checked.

@@ -14,7 +14,6 @@ use Rattle.tables.specs.declared.Refusal.{Refusal}
 use Rattle.tables.specs.declared.Answer.{Answer}
 use Rattle.tables.specs.declared.Answer.the-variants.{Accepted, Refused}
 use Rattle.tables.specs.declared.Answered.{Answered}
-use Rattle.tables.specs.Refusals.{refusal-number, answer-number}
 use Rattle.tables.specs.Values.{zero-table, refuses, check-table}
 use Rattle.terms.specs.Checks.{most-tokens}
 use Rattle.sharing.specs.Calls.{after-check, equation-call}
@@ -24,10 +23,8 @@ use Rattle.questions.specs.Replies as Replies
 use Rattle.codec.specs.Numbers.{numbers, with-zeros}
 use Rattle.codec.proofs.Laws.{length-numbers}
 use Rattle.forms.specs.declared.Extent.the-variants.{Whole}
-use Rattle.forms.specs.Tables.{read-table, table-form, write-answer, written}
-use Rattle.byte_calls.specs.Calls.{check-bytes, tokens-of, term-call, after-read, ask-read, put-checked, put-answer}
-use Rattle.byte_calls.specs.Calls.{put-number}
-use Rattle.byte_calls.specs.Calls.{put-bytes}
+use Rattle.forms.specs.Tables.{read-table}
+use Rattle.byte_calls.specs.Calls.{check-bytes, tokens-of, term-call, after-read, ask-read}
 
 -- ---- After a table was read
 
@@ -80,15 +77,3 @@ module _ (side : Side) (t : Table) (x : ℕ) (b : List ℕ) where
     term-went e filled =
         rw (good, e, filled)
         (ap (equation-call side t x) (take-at (numbers (length b / 2) b) _ (length b / 2) (length-numbers (length b / 2) b)))
-
--- ---- What is handed back
-
-module _ (a : Answered) (out : List ℕ) where
-  pub put-refused : {r : Refusal} → a .answer ≡ Refused r → (refusal-number r ≡ put-number a out) × (out ≡ put-bytes a out)
-  unfolding put-number put-bytes put-answer put-checked written
-  put-refused e = (rw e, rw e)
-
-  pub put-went : {w : Answer} {out′ : List ℕ} → a .answer ≡ Accepted → w ≡ write-answer (a .table) (length out)
-      → out′ ≡ written w (table-form (a .table)) out → (answer-number w ≡ put-number a out) × (out′ ≡ put-bytes a out)
-  unfolding put-number put-bytes put-answer put-checked
-  put-went e wrote same = (rw (e, wrote), same ∙ rw (e, wrote))

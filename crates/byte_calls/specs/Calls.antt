@@ -1,5 +1,5 @@
 -- The calls on byte buffers (01, "Written form" and "Refusals"): the first table's checks, the second's, the equation's or the
--- question's own, then 8, then 9. A refusal leaves every byte.
+-- question's own, then 8.
 use mathlib.Core.Bool.{cond}
 use mathlib.Core.List.{List}
 use Prim.Native.Nat.{ℕ, _/_, _%_}
@@ -11,17 +11,15 @@ use Rattle.tables.specs.declared.Refusal.the-variants as R
 use Rattle.tables.specs.declared.Answer.{Answer}
 use Rattle.tables.specs.declared.Answer.the-variants.{Accepted, Refused}
 use Rattle.tables.specs.declared.Answered.{Answered}
-use Rattle.tables.specs.Refusals.{refusal-number, answer-number}
 use Rattle.tables.specs.Values.{zero-table, check-table}
 use Rattle.terms.specs.Checks.{most-tokens}
 use Rattle.sharing.specs.Calls.{after-check, equation-call, join-call, projection-call, change-side-call}
 use Rattle.questions.specs.declared.Reply.{Reply}
-use Rattle.questions.specs.declared.Reply.the-variants as Q
 use Rattle.questions.specs.Replies.{equal-call, ground-call, independent-call}
 use Rattle.questions.specs.Replies as Replies
 use Rattle.codec.specs.Numbers.{numbers}
 use Rattle.forms.specs.declared.Extent.the-variants.{Whole}
-use Rattle.forms.specs.Tables.{read-table, table-form, write-answer, written}
+use Rattle.forms.specs.Tables.{read-table}
 
 -- ---- A term as bytes
 
@@ -76,34 +74,3 @@ ground-bytes side b x = ask-read b (λ t. ground-call side t x)
 -- Are two sets of variables independent?
 unfoldable pub independent-bytes : Side → List ℕ → ℕ → ℕ → Reply
 independent-bytes side b first second = ask-read b (λ t. independent-call side t first second)
-
--- ---- What is handed back
-
--- The answer of a call that writes its table: 9 where the output is too short.
-unfoldable pub put-checked : Answer → Answer → Answer
-put-checked Accepted wrote = wrote
-put-checked (Refused r) wrote = Refused r
-
--- The same, for an output.
-unfoldable pub put-answer : Answered → List ℕ → Answer
-put-answer a out = put-checked (a .answer) (write-answer (a .table) (length out))
-
--- The number that is returned.
-unfoldable pub put-number : Answered → List ℕ → ℕ
-put-number a out = answer-number (put-answer a out)
-
--- The bytes of the output afterwards: the form, and past it what they held; all that they held where the call is refused.
-unfoldable pub put-bytes : Answered → List ℕ → List ℕ
-put-bytes a out = written (put-answer a out) (table-form (a .table)) out
-
--- The number that a question returns.
-unfoldable pub reply-number : Reply → ℕ
-reply-number Q.Yes = 0
-reply-number Q.No = 0
-reply-number (Q.Refused r) = refusal-number r
-
--- The word of the answer afterwards: 1 for yes, 0 for no, and what it held where the question is refused.
-unfoldable pub reply-word : Reply → ℕ → ℕ
-reply-word Q.Yes w = 1
-reply-word Q.No w = 0
-reply-word (Q.Refused r) w = w

@@ -2,6 +2,3 @@ pub mod Every
 pub mod Splitting
 pub mod Pieces
 pub mod Forcing
-pub mod Inclusion
-pub mod Firsts
-pub mod Meeting

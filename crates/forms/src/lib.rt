@@ -41,7 +41,7 @@ fn read_entries(l: u32, n: usize, b: &[u8]) -> Answered
     }
     let mut care = [0u32; 256];
     let mut value = [0u32; 256];
-    let g = lists::grow_each(&mut care, &mut value, 0, l, &ycare, &yvalue, n);
+    let g = growing::grow_each(&mut care, &mut value, 0, l, &ycare, &yvalue, n);
     lists::made_or_full(l, Table::zero(), g, &care, &value)
 }
 

@@ -1,9 +1,5 @@
 pub mod Packing
 pub mod Growing
-pub mod Widening
 pub mod Toward
-pub mod Converting
-pub mod Idle
-pub mod Keyed
-pub mod Passing
 pub mod Answering
+pub mod Steps

@@ -1,10 +1,6 @@
-// The procedures of 01 on working lists, of both sides. Inner: not a public call.
+// The procedures of 01 on working lists: meets, relevant, irrelevant, cross and close. Inner: not a public call.
 // Each makes its result in two lent arrays that hold no string yet, unless a comment says otherwise; where the result is full,
 // nothing is said of the arrays. Candidates are written as a row and then grown, so that a row can be passed over by blocks.
-pub mod equations;
-pub mod projections;
-pub mod sides;
-
 use lists::Grown;
 use words::Entry;
 ghost use mathlib.Core.Path.{_≡_};
@@ -42,7 +38,7 @@ fn meets_one(
     let mut rcare = [0u32; 256];
     let mut rvalue = [0u32; 256];
     let k = candidates::meet_row(bcare, bvalue, bn, a, &mut rcare, &mut rvalue);
-    lists::grow_each(care, value, n, l, &rcare, &rvalue, k)
+    growing::grow_each(care, value, n, l, &rcare, &rvalue, k)
 }
 
 // The meets of matching strings of two lists, the first's outermost.
@@ -155,7 +151,7 @@ fn cross_one(
     let mut rcare = [0u32; 256];
     let mut rvalue = [0u32; 256];
     let k = candidates::or_row(bcare, bvalue, bn, a, &mut rcare, &mut rvalue);
-    lists::grow_each(care, value, n, l, &rcare, &rvalue, k)
+    growing::grow_each(care, value, n, l, &rcare, &rvalue, k)
 }
 
 // Cross: "a or b" for each a, each b.
@@ -210,7 +206,7 @@ fn close_one(care: &mut [u32; 256], value: &mut [u32; 256], n: usize, l: u32, c:
     let mut rcare = [0u32; 256];
     let mut rvalue = [0u32; 256];
     let k = candidates::or_row(care, value, n, c, &mut rcare, &mut rvalue);
-    match lists::grow_each(care, value, n, l, &rcare, &rvalue, k) {
+    match growing::grow_each(care, value, n, l, &rcare, &rvalue, k) {
         Grown::Count(m) => lists::grow(care, value, m, l, c),
         Grown::Full => Grown::Full,
     }

@@ -41,7 +41,7 @@ fn same_groups(t: Table, u: Table) -> bool
     let bn = u.n;
     let bcare = u.care;
     let bvalue = u.value;
-    covering::equal(&acare, &avalue, an, &bcare, &bvalue, bn, l)
+    equality::equal(&acare, &avalue, an, &bcare, &bvalue, bn, l)
 }
 
 // Are two tables of one side equal in groups? The answer is the same for both sides.
@@ -73,8 +73,8 @@ fn without(side: Side, t: Table, x: u32) -> bool
     let care = t.care;
     let value = t.value;
     match side {
-        Side::Positive => covering::ground_positive(&care, &value, n, x),
-        Side::Negative => covering::ground_negative(&care, &value, n, l, x),
+        Side::Positive => independence::ground_positive(&care, &value, n, x),
+        Side::Negative => independence::ground_negative(&care, &value, n, l, x),
     }
 }
 
@@ -106,8 +106,8 @@ fn unrelated(side: Side, t: Table, a: u32, b: u32) -> bool
     let care = t.care;
     let value = t.value;
     match side {
-        Side::Positive => covering::independent_positive(&care, &value, n, a, b),
-        Side::Negative => covering::independent_negative(&care, &value, n, l, a, b),
+        Side::Positive => independence::independent_positive(&care, &value, n, a, b),
+        Side::Negative => independence::independent_negative(&care, &value, n, l, a, b),
     }
 }
 

@@ -1,9 +1,6 @@
 // The operations on table values, of both sides: conversion, equation, join, projection and change of side.
 // A refusal returns the table as given; of two tables, the first.
 use lists::Grown;
-use procedures::equations;
-use procedures::projections;
-use procedures::sides;
 use tables::Answer;
 use tables::Answered;
 use tables::Refusal;
@@ -20,7 +17,7 @@ ghost use Rattle.words.specs.Words.{set-word};
 ghost use Rattle.tables.specs.Lists.{Holds};
 ghost use Rattle.lists.specs.Lists.{Makes};
 ghost use Rattle.tables.specs.Values.{refuses, made-or-full, GoodTable, entries-of};
-ghost use Rattle.procedures.specs.Parts.{OfSets};
+ghost use Rattle.equations.specs.Parts.{OfSets};
 ghost use Rattle.sharing.specs.Calls.{side-of, side-told, convert-call, equation-call, join-call, projection-call};
 ghost use Rattle.sharing.specs.Calls.{change-side-call};
 
@@ -57,12 +54,12 @@ pub fn convert(l: u32, words: &[u32]) -> Answered
     if !tables::good_width(l) {
         return tables::refused(Refusal::Width);
     }
-    if !lists::all_below(l, words) {
+    if !conversion::all_below(l, words) {
         return tables::refused(Refusal::Stray);
     }
     let mut care = [0u32; 256];
     let mut value = [0u32; 256];
-    let g = lists::convert(&mut care, &mut value, l, words);
+    let g = conversion::convert(&mut care, &mut value, l, words);
     lists::made_or_full(l, Table::zero(), g, &care, &value)
 }
 
@@ -149,7 +146,7 @@ fn join_list(
         Side::Positive => {
             *care = *acare;
             *value = *avalue;
-            lists::grow_each(care, value, an, l, bcare, bvalue, bn)
+            growing::grow_each(care, value, an, l, bcare, bvalue, bn)
         }
         Side::Negative => procedures::meets(acare, avalue, an, bcare, bvalue, bn, l, care, value),
     }

@@ -80,7 +80,7 @@ pub extern "C" fn timing_grow(
     if !((n <= 256) & (l <= 32) & (m <= 256)) {
         return 258;
     }
-    match lists::grow_all(care, value, n, l, ycare, yvalue, m) {
+    match growing::grow_all(care, value, n, l, ycare, yvalue, m) {
         Grown::Count(k) => k,
         Grown::Full => 257,
     }
@@ -146,7 +146,7 @@ pub extern "C" fn timing_lists_equal(
     if !((an <= 256) & (l <= 32) & (bn <= 256)) {
         return 2;
     }
-    number(covering::equal(acare, avalue, an, bcare, bvalue, bn, l))
+    number(equality::equal(acare, avalue, an, bcare, bvalue, bn, l))
 }
 
 // Of a negative list of strings of l positions: does no group meet both sets? 2 where a number is out of range.
@@ -168,5 +168,5 @@ pub extern "C" fn timing_lists_independent(
     if !((n <= 256) & (l <= 32)) {
         return 2;
     }
-    number(covering::independent_negative(care, value, n, l, a, b))
+    number(independence::independent_negative(care, value, n, l, a, b))
 }

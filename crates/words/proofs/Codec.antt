@@ -201,6 +201,11 @@ value-exactly (false ∷ g) = rw (value-exactly g)
 pub exactly-word : (g : Bits) → word (exactly g) ≡ record { care = 2 ^ length g - 1; value = set-word g }
 exactly-word g = λ i. record { care = care-exactly g i; value = value-exactly g i }
 
+-- all l bits of care with the word of a group are the words of the string that covers just that group
+pub group-word : (g : Bits) (full w l : ℕ) → length g ≡ l → full ≡ 2 ^ l - 1 → w ≡ set-word g
+    → record { care = full; value = w } ≡ word (exactly g)
+group-word g full w l e f is = rw (f, is, ← e) (sym (exactly-word g))
+
 -- ---- The first position of a set
 
 -- t is the first position of the set

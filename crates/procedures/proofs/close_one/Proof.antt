@@ -3,7 +3,7 @@ use Rattle.model.specs.Growth.{grow}
 use Rattle.tables.proofs.Values.{holds-empty}
 use Rattle.lists.proofs.Toward.{leaves-makes, within-count}
 use Rattle.procedures.proofs.Folds.{close-row}
-use Rattle.procedures.proofs.Steps.{makes-then, stops-then}
+use Rattle.lists.proofs.Steps.{makes-then, stops-then}
 use borrow.Author.Needs.{needs}
 use Rattle.procedures.proofs.close_one.Statement.{statement}
 use Rattle.procedures.proofs.close_one.Tie as tie

@@ -1,5 +1,5 @@
 use Rattle.model.specs.Tables.{irrelevant}
-use Rattle.procedures.proofs.Sets.{holds-zeros}
+use Rattle.candidates.proofs.Sets.{holds-zeros}
 use borrow.Author.Needs.{needs}
 use Rattle.procedures.proofs.irrelevant.Statement.{statement}
 use Rattle.procedures.proofs.irrelevant.Tie as tie

@@ -5,7 +5,7 @@ use lib.Count.{ones}
 use Rattle.words.proofs.Codec.{set-length, set-word-set}
 use Rattle.tables.proofs.Values.{holds-empty}
 use Rattle.tables.proofs.Checking.{good-holds}
-use Rattle.procedures.proofs.Sets.{kept-ones}
+use Rattle.candidates.proofs.Sets.{kept-ones}
 use Rattle.sharing.specs.Calls.{after-check, good-keep, projected, projection-call}
 use Rattle.sharing.proofs.Answers.{good-few, good-wide, keep-test, keep-below}
 use borrow.Author.Needs.{needs}
