@@ -46,7 +46,9 @@ pub fn read_folder(folder: &Path) -> Checked<Vec<Case>> {
         let path = file.map_err(|error| error.to_string())?.path();
         let name = path.file_stem().map(|stem| stem.to_string_lossy());
         match path.extension().and_then(|extension| extension.to_str()) {
-            Some("words" | "out") => *names.entry(name.unwrap_or_default().into()).or_default() += 1,
+            Some("words" | "out") => {
+                *names.entry(name.unwrap_or_default().into()).or_default() += 1
+            }
             _ => return Err(format!("{}: not a case", path.display())),
         }
     }

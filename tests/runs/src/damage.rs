@@ -18,7 +18,7 @@ pub fn damage(input: &mut Input, random: &mut Random) {
         4 => cut(bytes, random),
         5 => lengthen(bytes, random),
         6..=8 => change_size(input, random),
-        _ => change_word(bytes, random),
+        _ => change_word(input, random),
     }
 }
 
@@ -53,14 +53,15 @@ fn change_size(input: &mut Input, random: &mut Random) {
     size.copy_from_slice(&new.to_le_bytes());
 }
 
-/// Puts another number into one of the words: a small one, a head or any.
-fn change_word(bytes: &mut [u8], random: &mut Random) {
-    let words = bytes.len() / 2;
+/// Puts another number into one of the words, mostly one after the table: a small one, a head or any.
+fn change_word(input: &mut Input, random: &mut Random) {
+    let start = random.pick(&[0, input.rest, input.rest]);
+    let words = input.bytes.len().saturating_sub(start) / 2;
     if words == 0 {
         return;
     }
-    let place = 2 * random.below(words);
+    let place = start + 2 * random.below(words);
     let (small, any) = (random.below(18) as u16, random.word() as u16);
     let new = random.pick(&[small, small, 0x8000 | small, any]);
-    bytes[place..place + 2].copy_from_slice(&new.to_le_bytes());
+    input.bytes[place..place + 2].copy_from_slice(&new.to_le_bytes());
 }

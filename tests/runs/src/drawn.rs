@@ -33,10 +33,10 @@ pub fn check(tester: &mut Tester) -> Checked<usize> {
 pub fn draw(random: &mut Random) -> Input {
     match random.below(100) {
         0..=19 => random.input(Size::Light),
-        20..=25 => random.input(Size::Wide),
-        26..=28 => random.input(Size::Any),
-        29..=33 => random.crowded_input(),
-        34..=38 => random.long_input(),
+        20..=27 => random.input(Size::Wide),
+        28..=31 => random.input(Size::Any),
+        32..=41 => random.crowded_input(),
+        42..=46 => random.long_input(),
         _ => damaged(random),
     }
 }

@@ -97,7 +97,8 @@ fn check_longest(tester: &mut Tester) -> Checked<()> {
     Ok(())
 }
 
-/// 256 groups of which none has X16, then 64 times the equation X16 = a, which changes nothing.
+/// The input of the longest text and the text: 256 groups of which none has X16, then 64 times the
+/// equation X16 = a, which changes nothing.
 fn longest() -> (Vec<u8>, String) {
     let groups = 1..=256;
     let entries = groups.clone().map(|group| Entry::of_group(16, group));
@@ -120,6 +121,7 @@ fn longest() -> (Vec<u8>, String) {
     (Input::new(&table, &equations).bytes, text)
 }
 
+/// One stored case, given in some way.
 fn check_case(tester: &mut Tester, case: &Case, feed: Feed) -> Checked<()> {
     let (name, text) = (case.title(), &case.text);
     tester.check_fed(&name, &case.input, text, feed, Drain::Fast)

@@ -70,7 +70,7 @@ impl Program {
         give(&mut child, input, feed).map_err(|error| format!("giving the input: {error}"))?;
         let text = take_text(&mut child, drain);
         if text.is_err() {
-            // It may have ended by now, or be held by what it waits for.
+            // Where it has ended by now there is nothing to end.
             let _ = child.kill();
         }
         let status = child.wait().map_err(|error| error.to_string())?;
@@ -152,6 +152,7 @@ fn take_text(child: &mut Child, drain: Drain) -> Checked<Vec<u8>> {
     }
 }
 
+/// Reads the text to its end, at once or slowly.
 fn read_text(mut pipe: ChildStdout, drain: Drain, id: u32) -> io::Result<Vec<u8>> {
     let mut text = Vec::new();
     if let Drain::Fast = drain {

@@ -47,7 +47,10 @@ impl Tally {
             applied,
             ..
         } = self;
-        println!("accepted          {:>5}, {applied} with equations", numbers[0]);
+        println!(
+            "accepted          {:>5}, {applied} with equations",
+            numbers[0]
+        );
         for (word, number) in WORDS.iter().zip(1..) {
             let count = numbers[number];
             let more = match number {
