@@ -1,6 +1,6 @@
 # make run       the program sharerun on the example, from a readable file to readable tables
 # make test      the gate: every proof and must-fail edit, then every test of what was proved
-# make calls     compares every exported call with plain Rust, then again between fences and under the address sanitizer
+# make calls     compares every exported call with plain Rust, then again with its buffers between protected pages
 # make runs      sharerun on stored cases and against plain Rust
 # make tools     the text front end
 # make examples  the C interface: header, refusals and examples, in place and installed
@@ -40,7 +40,7 @@ same:
 
 calls: library
 	@$(CARGO) run --quiet --release --manifest-path tests/calls/Cargo.toml
-	@$(FOLDERS) tests/sanitized
+	@$(FOLDERS) tests/fences
 
 runs: $(PROGRAM)
 	@$(CARGO) run --quiet --release --manifest-path tests/runs/Cargo.toml
@@ -48,7 +48,7 @@ runs: $(PROGRAM)
 tools: library $(PROGRAM)
 	@tests/tools
 
-stack:
+stack: library
 	@tests/stack
 
 library: $(ARCHIVE)

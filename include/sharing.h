@@ -45,6 +45,8 @@
  *   - The buffers of one call, and the objects that it writes, never overlap.
  *   - An output may be longer than what is written; its other bytes keep what they held. An output
  *     of SHARING_MAX_FORM bytes is never too short.
+ *   - 256 KiB of stack are enough for any call (tested with the deepest terms, not proved). No call
+ *     allocates memory, keeps anything between calls or uses a global variable.
  */
 #ifndef SHARING_H
 #define SHARING_H

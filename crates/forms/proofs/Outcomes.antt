@@ -1,24 +1,21 @@
 -- What a form is answered, test by test, and the bytes that are written. Assumes nothing.
 use mathlib.Core.Path.{_≡_, refl, sym, ap, _∙_}
 use mathlib.Core.Bool.{true, false, _&&_}
-use mathlib.Core.List.{List, _++_, map}
+use mathlib.Core.List.{List, _++_}
 use Prim.Native.Nat.{ℕ, _+_, _-_, _*_, _≤_, _<_}
 use native.Mathlib.Nat.{zero-add}
 use native.Mathlib.Omega.{arith}
 use borrow.Author.Tests.{le-leb, lt-leb, eq-eqb, ne-eqb, eqb-true, leb-true}
 use lib.Dec.{leb}
-use lib.ListN.{length, take, drop, length-append, length-map, length-replicate}
+use lib.ListN.{length, take, drop, length-append}
 use lib.Seq.{length-take-le, sets, sets-eq}
 use Rattle.model.specs.Growth.{Entries, limit}
-use Rattle.words.specs.declared.Entry.{Entry}
-use Rattle.words.specs.Words.{word}
 use Rattle.tables.specs.declared.Table.{Table}
 use Rattle.tables.specs.declared.Refusal.{Refusal}
 use Rattle.tables.specs.declared.Refusal.the-variants as R
 use Rattle.tables.specs.declared.Answer.the-variants.{Accepted, Refused}
-use Rattle.tables.specs.Lists.{zero-entry, padded, list-words}
-use Rattle.tables.specs.Values.{entries-of, good-width, zero-table, refuses, check-table, GoodTable}
-use Rattle.tables.proofs.Checking.{good-holds}
+use Rattle.tables.specs.Values.{good-width, zero-table, refuses, check-table, GoodTable}
+use Rattle.tables.proofs.Checking.{good-few, good-long}
 use Rattle.terms.specs.Checks.{most-tokens}
 use Rattle.codec.specs.Numbers.{sum, pair, bytes}
 use Rattle.codec.proofs.Laws.{length-bytes, bytes-append, sets-append}
@@ -65,28 +62,12 @@ fits-room Front length room f = leb-true length room f
 
 -- ---- Writing a table
 
-words-long : (τ : Entries) → length τ ≤ limit → length (list-words τ) ≡ limit
-unfolding list-words padded
-words-long τ few =
-    length-append (map word τ) _
-    ∙ omega (arith, few, length-map τ word, length-replicate {A = Entry} (limit - length (map word τ)) zero-entry)
-
 module _ {t : Table} (g : GoodTable t) where
-  abbrev words : List Entry
-  words = list-words (entries-of t)
-
-  pub good-few : t .n ≤ limit
-  good-few = let h = good-holds g in omega (arith, h .count, h .good .few)
-
   pub good-cares : t .n ≤ length (t .care)
-  good-cares =
-      let long = ap length (good-holds g .arrays .cares) in
-      omega (arith, good-few, long, length-map words (λ (e : Entry). e .care), words-long (entries-of t) (g .list .few))
+  good-cares = omega (arith, good-few g, good-long g .0)
 
   pub good-values : t .n ≤ length (t .value)
-  good-values =
-      let long = ap length (good-holds g .arrays .values) in
-      omega (arith, good-few, long, length-map words (λ (e : Entry). e .value), words-long (entries-of t) (g .list .few))
+  good-values = omega (arith, good-few g, good-long g .1)
 
 module _ (t : Table) (out : List ℕ) where
   pub write-refused : {r : Refusal} → check-table t ≡ Refused r

@@ -4,6 +4,7 @@ use mathlib.Core.List.{List, [], _∷_, _++_}
 use Prim.Native.Nat.{ℕ, _+_, _-_, _*_, _≤_, _<_}
 use native.Mathlib.Omega.{arith}
 use lib.ListN.{length, take, drop, length-append}
+use Rattle.model.specs.Groups.{Groups}
 use Rattle.model.specs.Tables.{positive}
 use Rattle.tables.specs.declared.Table.{Table}
 use Rattle.tables.specs.declared.Refusal.{Refusal}
@@ -12,15 +13,17 @@ use Rattle.tables.specs.declared.Answer.the-variants.{Accepted, Refused}
 use Rattle.tables.specs.declared.Answered.{Answered}
 use Rattle.tables.specs.Refusals.{refusal-number}
 use Rattle.tables.specs.Values.{GoodTable}
+use Rattle.tables.proofs.Checking.{good-long}
 use Rattle.terms.specs.Checks.{most-tokens}
 use Rattle.sharing.specs.Calls.{side-told, equation-call}
+use Rattle.sharing.specs.Outcomes.{Outcome, early, full, accepted, Becomes}
+use Rattle.sharing.proofs.Demand2.{equation-outcome}
 use Rattle.codec.specs.Numbers.{number-at, numbers, sum, with-zeros}
 use Rattle.codec.proofs.Laws.{length-numbers}
 use Rattle.forms.specs.Equations.{Written, lefts, counts, share-out, equations-of}
 use Rattle.forms.proofs.Walking.{later, this, later-next, later-none, this-part}
 use Rattle.running.specs.States.{state, run-from}
 use Rattle.running.proofs.Steps.{Going, going-start, going-end, going-stop, going-step}
-use Rattle.analyser.proofs.Equations.{accepted-exact, refused-kept}
 use Rattle.run_text.specs.declared.Pass.{Pass}
 use Rattle.run_text.specs.Lines.{vars, first-text, equation-text}
 use Rattle.run_text.specs.Passes.{Room, passed}
@@ -30,11 +33,14 @@ use Rattle.run_text.proofs.Telling.{Telling, telling-start, room-next, 
 
 -- the table after an equation is good, whatever the answer
 good-after : (t : Table) (x : ℕ) (ts : List ℕ) → GoodTable t → GoodTable (equation-call positive t x ts .table)
-good-after t x ts good = go (equation-call positive t x ts .answer) refl
+good-after t x ts good =
+    go (equation-outcome positive t x ts (record { cares = good-long good .0; values = good-long good .1 }))
   where
-    go : (a : Answer) → equation-call positive t x ts .answer ≡ a → GoodTable (equation-call positive t x ts .table)
-    go Accepted e = accepted-exact positive t x ts good e .is-good
-    go (Refused r) e = subst GoodTable (sym (refused-kept positive t x ts good e)) good
+    go : {Early : Refusal → Type 0} {Ready : Type 0} {Full : Ready → Type 0} {S : Ready → Groups} {a : Answered}
+        → Outcome t Early Ready Full (λ r. Becomes positive (t .l) (S r)) a → GoodTable (a .table)
+    go (early e) = good
+    go (full ready f) = good
+    go (accepted ready f b) = b .good
 
 module _ (pass : Pass) (e m : ℕ) (q : List ℕ) (t : Table) where
   -- what is said of all equations

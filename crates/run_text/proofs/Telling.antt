@@ -13,10 +13,10 @@ use Rattle.tables.specs.declared.Answer.{Answer}
 use Rattle.tables.specs.declared.Answer.the-variants.{Accepted, Refused}
 use Rattle.tables.specs.Refusals.{refusal-number}
 use Rattle.tables.specs.Values.{entries-of, GoodTable}
-use Rattle.tables.proofs.Checking.{width-most}
+use Rattle.tables.proofs.Checking.{good-few, width-most}
 use Rattle.codec.proofs.Laws.{sets-append}
 use Rattle.text.specs.Text.{decimal, line, entries-text}
-use Rattle.text.proofs.Writing.{decimal-most, line-length, good-few, entries-length}
+use Rattle.text.proofs.Writing.{decimal-most, line-length, entries-length}
 use Rattle.run_text.specs.declared.Pass.{Pass}
 use Rattle.run_text.specs.declared.Pass.the-variants.{Measure, Write}
 use Rattle.run_text.specs.Lines.{eq, entries, refused, block, equation-text}

@@ -2,8 +2,8 @@
 use libc::STDIN_FILENO;
 use libc::STDOUT_FILENO;
 
-// One byte more than an input may have: what follows it cannot change the answer. No text is longer than 65 tables of 256 lines of
-// 17 bytes, each under a line of at most 25, and 286000 bytes hold them (report: run-most).
+// One byte more than an input may have: what follows it cannot change the answer. No text is longer than 65 tables of 256
+// lines of 17 bytes, each under a line of at most 25; 286000 bytes hold them (run-most in crate run_text).
 fn main() {
     let mut input = [0u8; 4097];
     let mut text = [0u8; 286000];

@@ -8,7 +8,7 @@ use native.Mathlib.Omega.{arith}
 use borrow.Author.Tests.{eq-eqb, eqb-true, ltb-true, lt-ltb, le-leb, leb-true}
 use lib.Bits.{bitAnd, and-le-r}
 use lib.Dec.{ltb, leb, eqb}
-use lib.ListN.{length, getD, take, drop, replicate, length-map, length-drop, take-append-drop}
+use lib.ListN.{length, getD, take, drop, replicate, length-append, length-map, length-drop, length-replicate, take-append-drop}
 use lib.Seq.{length-take-le, getD-drop}
 use Rattle.model.specs.Strings.{Trits}
 use Rattle.model.specs.Growth.{Entries, limit}
@@ -203,12 +203,32 @@ good-holds g = record {
   good = g .list;
 }
 
+module _ {t : Table} (g : GoodTable t) where
+  -- at most 256 entries
+  pub good-few : t .n ≤ limit
+  good-few = let h = good-holds g in omega (arith, h .count, h .good .few)
+
+  words-long : length (list-words (entries-of t)) ≡ limit
+  unfolding list-words padded
+  words-long =
+      let ws = map word (entries-of t) in
+      length-append ws (replicate (limit - length ws) zero-entry)
+      ∙ omega (arith, g .list .few, length-map (entries-of t) word, length-replicate {A = Entry} (limit - length ws) zero-entry)
+
+  -- arrays of 256 words
+  pub good-long : (length (t .care) ≡ limit) × (length (t .value) ≡ limit)
+  good-long =
+      let a = good-holds g .arrays in (
+        ap length (a .cares) ∙ length-map (list-words (entries-of t)) (λ (e : Entry). e .care) ∙ words-long,
+        ap length (a .values) ∙ length-map (list-words (entries-of t)) (λ (e : Entry). e .value) ∙ words-long,
+      )
+
 -- The check accepts every good table value.
 pub good-passes : (t : Table) → GoodTable t → check-table t ≡ Accepted
 unfolding check-table
 good-passes t g =
     let h = good-holds g in
-    rw (g .width, le-leb (t .n) limit (omega (arith, h .count, h .good .few)), holds-clean h, holds-zero h)
+    rw (g .width, le-leb (t .n) limit (good-few g), holds-clean h, holds-zero h)
 
 pub width-most : (l : ℕ) → good-width l ≡ true → l ≤ 16
 unfolding good-width

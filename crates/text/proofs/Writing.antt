@@ -11,7 +11,7 @@ use lib.Dec.{ltb}
 use lib.ListN.{length, getD, drop, set, length-append, drop-of-length-le}
 use lib.Seq.{drop-cons, sets}
 use Rattle.model.specs.Strings.{Trits}
-use Rattle.model.specs.Growth.{Entries, limit}
+use Rattle.model.specs.Growth.{Entries}
 use Rattle.model.specs.Tables.{Wide}
 use Rattle.words.specs.Words.{string, trit-of}
 use Rattle.words.proofs.Codec.{string-of-word}
@@ -108,9 +108,6 @@ unfolding entry-text string
 entry-end out i end c v e =
     let d : end - i ≡ 0 = omega arith in
     rw (d, e)
-
-pub good-few : {t : Table} → GoodTable t → t .n ≤ limit
-good-few g = let h = good-holds g in omega (arith, h .count, h .good .few)
 
 module _ {t : Table} (good : GoodTable t) (i : ℕ) (lt : i < t .n) where
   -- the entry at an index

@@ -1,7 +1,8 @@
 use mathlib.Core.Path.{sym, _∙_}
 use native.Mathlib.Omega.{arith}
 use borrow.Author.Needs.{needs}
-use Rattle.forms.proofs.Outcomes.{write-refused, write-narrow, write-fits, stored, good-few, good-cares, good-values}
+use Rattle.tables.proofs.Checking.{good-few}
+use Rattle.forms.proofs.Outcomes.{write-refused, write-narrow, write-fits, stored, good-cares, good-values}
 use Rattle.forms.proofs.write_table.Statement.{statement}
 use Rattle.forms.proofs.write_table.Tie as tie
 

@@ -1,7 +1,6 @@
-use mathlib.Core.Path.{_≡_}
+use mathlib.Core.Path.{_≡_, _∙_}
 use Prim.Native.Nat.{_+_, _-_, _*_, _≤_}
 use native.Mathlib.Omega.{arith}
-use Rattle.forms.specs.Equations.{equations-of}
 use Rattle.forms.proofs.Walking.{place-room}
 use Rattle.run_text.specs.Lines.{vars}
 use Rattle.run_text.proofs.Telling.{block-most, equation-most}
@@ -39,14 +38,14 @@ loop-holds : tie.Need-loop-holds Inv-loop μ-loop
 loop-holds c =
     let at-tell-first = c .before .before in
     let at-start = at-tell-first .before .before .before .before .before .before in
-    let ws = equations-of (at-start .args .e) (at-start .args .m) (at-start .args .q .now) in
-    let told = at-tell-first .tell-first .ensures in (
+    let a = at-start .args in
+    let p = at-start .pre in
+    let told = at-tell-first .tell-first .ensures in
+    let most = block-most vars (a .t .l) (p .4) (omega arith) in (
       omega arith,
-      let most = block-most vars (at-start .args .t .l) (at-start .pre .4) (omega arith) in omega (arith, told .0, most),
-      saying-start (at-start .args .pass) (at-start .args .e) (at-start .args .m) (at-start .args .q .now) (at-start
-          .args .t) _ _ (at-start .pre .3) (at-start .pre .4)
-          (room-rest (at-start .args .pass) (at-start .args .out .now) (at-start .args .t) ws (at-start .pre .5)
-          (told .1) (told .0)),
+      omega (arith, told .0, most),
+      saying-start (a .pass) (a .e) (a .m) (a .q .now) (a .t) _ _ (p .3) (p .4)
+          (room-rest (a .pass) (a .out .now) (a .t) _ (p .5) (told .1) (told .0)),
     )
 
 mul-number-at : tie.Need-mul-number-at Inv-loop μ-loop
@@ -134,18 +133,20 @@ tell-equation-requires c κs =
     let at-loop-test = at-number-at .before in
     let at-loop = at-loop-test .before in
     let at-tokens-at = at-loop .before .before .before .before .before .before in
-    let at-start = at-tokens-at .before .before .before in (
-      omega (arith, at-start .pre .0, at-loop-test .loop-test .taken, at-loop .loop .inv .1),
-      omega (arith, at-start .pre .0, at-loop-test .loop-test .taken),
-      good-next (at-start .args .pass) (at-start .args .e) (at-start .args .m) (at-start .args .q .now) (at-start .args
-          .t) _ _ (at-loop .loop .out) (at-loop .loop .end) (at-loop .loop .u) (at-loop .loop .at) (at-loop .loop .k) _ _
-          (at-loop-test .loop-test .taken) (at-number-at .number-at .ensures) (at-number-at2 .number-at2 .ensures) (at-loop
-          .loop .inv .2) (at-tokens-at .tokens-at .ensures) (at-equation .equation .ensures),
-      room-equation (at-start .args .pass) (at-start .args .e) (at-start .args .m) (at-start .args .q .now) (at-start
-          .args .t) _ _ (at-loop .loop .out) (at-loop .loop .end) (at-loop .loop .u) (at-loop .loop .at) (at-loop .loop
-          .k) _ _
-          (at-loop-test .loop-test .taken) (at-number-at .number-at .ensures) (at-number-at2 .number-at2 .ensures) (at-loop
-          .loop .inv .2) (at-tokens-at .tokens-at .ensures) (at-equation .equation .ensures),
+    let at-start = at-tokens-at .before .before .before in
+    let a = at-start .args in
+    let w = at-loop .loop in
+    let lt = at-loop-test .loop-test .taken in
+    let x = at-number-at .number-at .ensures in
+    let n = at-number-at2 .number-at2 .ensures in
+    let row = at-tokens-at .tokens-at .ensures in
+    let called = at-equation .equation .ensures in (
+      omega (arith, at-start .pre .0, lt, w .inv .1),
+      omega (arith, at-start .pre .0, lt),
+      good-next (a .pass) (a .e) (a .m) (a .q .now) (a .t) _ _ (w .out) (w .end) (w .u) (w .at) (w .k) _ _
+          lt x n (w .inv .2) row called,
+      room-equation (a .pass) (a .e) (a .m) (a .q .now) (a .t) _ _ (w .out) (w .end) (w .u) (w .at) (w .k) _ _
+          lt x n (w .inv .2) row called,
     )
 
 enum-known-answer : tie.Need-enum-known-answer Inv-loop μ-loop
@@ -163,26 +164,11 @@ stopped-requires c κs =
 
 same-length : tie.Need-same-length Inv-loop μ-loop
 same-length c =
-    let at-answer = c .before .before .before in
-    let at-tell-equation = at-answer .before .before .before .before in
-    let at-equation = at-tell-equation .before .before .before in
-    let at-number-at2 = at-equation .before .before in
-    let at-number-at = at-number-at2 .before in
-    let at-loop-test = at-number-at .before in
-    let at-loop = at-loop-test .before in
+    let at-tell-equation = c .before .before .before .before .before .before .before in
+    let at-loop = at-tell-equation .before .before .before .before .before .before .before .before in
     let at-tell-first = at-loop .before .before .before in
-    let at-tokens-at = at-tell-first .before .before .before in
-    let at-start = at-tokens-at .before .before .before in
-    let first = at-tell-first .tell-first .ensures in
-    let told = at-tell-equation .tell-equation .ensures in
-    let stop = saying-stop (at-start .args .pass) (at-start .args .e) (at-start .args .m) (at-start .args .q .now)
-    (at-start .args .t) _ _ (at-loop .loop .out) (at-loop .loop .end) (at-loop .loop .u) (at-loop .loop .at)
-    (at-loop .loop .k) _ _
-    (at-loop-test .loop-test .taken) (at-number-at .number-at .ensures) (at-number-at2 .number-at2 .ensures) (at-loop
-    .loop .inv .2) (at-tokens-at .tokens-at .ensures) (at-equation .equation .ensures) (told .1) (told .0) (at-answer
-    .answer .given .1) in
-    all-told (at-start .args .pass) (at-start .args .out .now) (at-start .args .t) _ (at-start .pre .5) (first .1)
-    (first .0) (stop .1) .2
+    at-tell-equation .tell-equation .kept .1 .0 ∙ at-loop .loop .inv .2 .telling .kept ∙ at-tell-first .tell-first .kept
+    .1 .0
 
 returns : tie.Need-returns Inv-loop μ-loop
 returns c =
@@ -197,16 +183,15 @@ returns c =
     let at-tell-first = at-loop .before .before .before in
     let at-tokens-at = at-tell-first .before .before .before in
     let at-start = at-tokens-at .before .before .before in
+    let a = at-start .args in
+    let w = at-loop .loop in
     let first = at-tell-first .tell-first .ensures in
     let told = at-tell-equation .tell-equation .ensures in
-    let stop = saying-stop (at-start .args .pass) (at-start .args .e) (at-start .args .m) (at-start .args .q .now)
-    (at-start .args .t) _ _ (at-loop .loop .out) (at-loop .loop .end) (at-loop .loop .u) (at-loop .loop .at)
-    (at-loop .loop .k) _ _
-    (at-loop-test .loop-test .taken) (at-number-at .number-at .ensures) (at-number-at2 .number-at2 .ensures) (at-loop
-    .loop .inv .2) (at-tokens-at .tokens-at .ensures) (at-equation .equation .ensures) (told .1) (told .0) (at-answer
-    .answer .given .1) in
-    let all = all-told (at-start .args .pass) (at-start .args .out .now) (at-start .args .t) _ (at-start .pre .5) (first
-    .1) (first .0) (stop .1) in
+    let stop = saying-stop (a .pass) (a .e) (a .m) (a .q .now) (a .t) _ _ (w .out) (w .end) (w .u) (w .at) (w .k) _ _
+    (at-loop-test .loop-test .taken) (at-number-at .number-at .ensures) (at-number-at2 .number-at2 .ensures) (w .inv .2)
+    (at-tokens-at .tokens-at .ensures) (at-equation .equation .ensures)
+    (told .1) (told .0) (at-answer .answer .given .1) in
+    let all = all-told (a .pass) (a .out .now) (a .t) _ (at-start .pre .5) (first .1) (first .0) (stop .1) in
     (rw (c .stopped .ensures, at-refusal-number .refusal-number .ensures, all .0, stop .0), all .1)
 
 enum-told : tie.Need-enum-told Inv-loop μ-loop
@@ -219,10 +204,11 @@ add-at c =
     let at-loop-test = at-number-at .before in
     let at-loop = at-loop-test .before in
     let at-start = at-loop .before .before .before .before .before .before .before .before .before in
-    let room =
-    place-room (at-start .args .e) (at-start .args .m) (at-start .args .q .now) (at-loop .loop .k) (at-loop .loop .at) _ _
-    (at-loop-test .loop-test .taken) (at-number-at .number-at .ensures) (at-number-at2 .number-at2 .ensures) (at-loop
-    .loop .inv .2 .going .0) in
+    let a = at-start .args in
+    let w = at-loop .loop in
+    let room = place-room (a .e) (a .m) (a .q .now) (w .k) (w .at) _ _ (at-loop-test .loop-test .taken) (at-number-at
+    .number-at .ensures)
+    (at-number-at2 .number-at2 .ensures) (w .inv .2 .going .0) in
     omega (arith, at-start .pre .1, room)
 
 add-k : tie.Need-add-k Inv-loop μ-loop
@@ -244,20 +230,21 @@ loop-again c =
     let at-loop = at-loop-test .before in
     let at-tokens-at = at-loop .before .before .before .before .before .before in
     let at-start = at-tokens-at .before .before .before in
+    let a = at-start .args in
+    let w = at-loop .loop in
+    let lt = at-loop-test .loop-test .taken in
+    let x = at-number-at .number-at .ensures in
+    let n = at-number-at2 .number-at2 .ensures in
+    let row = at-tokens-at .tokens-at .ensures in
+    let called = at-equation .equation .ensures in
     let told = at-tell-equation .tell-equation .ensures in
-    let most = equation-most (at-loop .loop .k + 1) (at-equation .equation .result .answer) (good-next
-    (at-start .args .pass) (at-start .args .e) (at-start .args .m) (at-start .args .q .now) (at-start .args .t) _ _
-    (at-loop .loop .out) (at-loop .loop .end) (at-loop .loop .u) (at-loop .loop .at) (at-loop .loop .k) _ _
-    (at-loop-test .loop-test .taken) (at-number-at .number-at .ensures) (at-number-at2 .number-at2 .ensures) (at-loop
-    .loop .inv .2) (at-tokens-at .tokens-at .ensures) (at-equation .equation .ensures)) in (
-      omega (arith, at-loop-test .loop-test .taken),
-      omega (arith, told .0, most, at-loop .loop .inv .1),
-      saying-step (at-start .args .pass) (at-start .args .e) (at-start .args .m) (at-start .args .q .now) (at-start
-          .args .t) _ _ (at-loop .loop .out) (at-loop .loop .end) (at-loop .loop .u) (at-loop .loop .at) (at-loop .loop
-          .k) _ _
-          (at-loop-test .loop-test .taken) (at-number-at .number-at .ensures) (at-number-at2 .number-at2 .ensures) (at-loop
-          .loop .inv .2) (at-tokens-at .tokens-at .ensures) (at-equation .equation .ensures) (told .1) (told .0) (c .enum-told
-          .given .1),
+    let good = good-next (a .pass) (a .e) (a .m) (a .q .now) (a .t) _ _ (w .out) (w .end) (w .u) (w .at) (w .k) _ _
+    lt x n (w .inv .2) row called in
+    let most = equation-most (w .k + 1) (at-equation .equation .result .answer) good in (
+      omega (arith, lt),
+      omega (arith, told .0, most, w .inv .1),
+      saying-step (a .pass) (a .e) (a .m) (a .q .now) (a .t) _ _ (w .out) (w .end) (w .u) (w .at) (w .k) _ _
+          lt x n (w .inv .2) row called (told .1) (told .0) (c .enum-told .given .1),
     )
 
 stopped-requires-2 : tie.Need-stopped-requires-2 Inv-loop μ-loop
@@ -266,7 +253,10 @@ stopped-requires-2 c κs =
     omega (arith, at-start .pre .0)
 
 same-length-2 : tie.Need-same-length-2 Inv-loop μ-loop
-same-length-2 c = search needs
+same-length-2 c =
+    let at-loop = c .before .before in
+    let at-tell-first = at-loop .before .before .before in
+    at-loop .loop .inv .2 .telling .kept ∙ at-tell-first .tell-first .kept .1 .0
 
 returns-2 : tie.Need-returns-2 Inv-loop μ-loop
 returns-2 c =
@@ -274,13 +264,13 @@ returns-2 c =
     let at-loop = at-loop-test .before in
     let at-tell-first = at-loop .before .before .before in
     let at-start = at-tell-first .before .before .before .before .before .before in
+    let a = at-start .args in
+    let w = at-loop .loop in
     let first = at-tell-first .tell-first .ensures in
-    let d : at-loop .loop .k ≡ at-start .args .e = omega (arith, at-loop-test .loop-test .left, at-loop .loop .inv .0) in
-    let stop = saying-end (at-start .args .pass) (at-start .args .e) (at-start .args .m) (at-start .args .q .now)
-    (at-start .args .t) _ _ (at-loop .loop .out) (at-loop .loop .end)
-    (at-loop .loop .u) (at-loop .loop .at) (at-loop .loop .k) d (at-loop .loop .inv .2) in
-    let all = all-told (at-start .args .pass) (at-start .args .out .now) (at-start .args .t) _ (at-start .pre .5) (first
-    .1) (first .0) (stop .1) in
+    let d : w .k ≡ a .e = omega (arith, at-loop-test .loop-test .left, w .inv .0) in
+    let stop = saying-end (a .pass) (a .e) (a .m) (a .q .now) (a .t) _ _ (w .out) (w .end) (w .u) (w .at) (w .k) d (w
+    .inv .2) in
+    let all = all-told (a .pass) (a .out .now) (a .t) _ (at-start .pre .5) (first .1) (first .0) (stop .1) in
     (rw (c .stopped2 .ensures, all .0, stop .0), all .1)
 
 pub tell-spec : {M : Type 1} → statement M

@@ -1,7 +1,7 @@
 use mathlib.Core.Path.{_∙_}
 use native.Mathlib.Omega.{arith}
-use Rattle.tables.proofs.Checking.{width-most}
-use Rattle.text.proofs.Writing.{decimal-most, line-length, good-few, entries-length}
+use Rattle.tables.proofs.Checking.{good-few, width-most}
+use Rattle.text.proofs.Writing.{decimal-most, line-length, entries-length}
 use Rattle.run_text.specs.Lines.{entries, block}
 use Rattle.run_text.proofs.Telling.{as-measured, as-written, block-length, entries-most, block-written}
 use borrow.Author.Needs.{needs}

@@ -4,9 +4,9 @@ use native.Mathlib.Omega.{arith}
 use lib.ListN.{length, drop}
 use lib.Seq.{sets}
 use Rattle.tables.specs.Values.{entries-of}
-use Rattle.tables.proofs.Checking.{width-most}
+use Rattle.tables.proofs.Checking.{good-few, width-most}
 use Rattle.text.specs.Text.{entries-text}
-use Rattle.text.proofs.Writing.{good-few, left-length, entries-turn, entries-end}
+use Rattle.text.proofs.Writing.{left-length, entries-turn, entries-end}
 use borrow.Author.Needs.{needs}
 use Rattle.text.proofs.put_entries.Statement.{statement}
 use Rattle.text.proofs.put_entries.Tie as tie

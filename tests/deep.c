@@ -1,0 +1,51 @@
+/* Terms of 1024 tokens in the shapes that nest deepest, through the exported calls. Run in a small stack by tests/stack. */
+#include "sharing.h"
+
+#include <stdio.h>
+
+enum { TOKENS = 1024, HEAD = 0x8000 };
+
+static void put(uint8_t *at, unsigned word) {
+    at[0] = (uint8_t)(word & 0xff);
+    at[1] = (uint8_t)(word >> 8);
+}
+
+/* So many heads of one argument, then heads of `arity` arguments, all of them X1 but the last. */
+static void nest(uint8_t *term, unsigned first, unsigned arity) {
+    for (unsigned i = 0; i < TOKENS - 1; i++) {
+        unsigned token = 1;
+        if (i < first)
+            token = HEAD + 1;
+        else if ((i - first) % arity == 0)
+            token = HEAD + arity;
+        put(term + 2 * i, token);
+    }
+    put(term + 2 * (TOKENS - 1), 1);
+}
+
+/* The answers to the term on one table of 16 variables: by itself on either side, and as the equation of a run. */
+static int answers(const uint8_t *term) {
+    static uint8_t table[8], equations[8 + 2 * TOKENS], out[SHARING_MAX_FORM];
+    put(table, 16), put(table + 2, 1), put(table + 4, 3), put(table + 6, 1);
+    put(equations, 1), put(equations + 2, TOKENS), put(equations + 4, 1), put(equations + 6, TOKENS);
+    for (size_t i = 0; i < 2 * TOKENS; i++)
+        equations[8 + i] = term[i];
+    for (uint32_t side = 0; side < 2; side++) {
+        uint32_t code = sharing_equation(side, table, sizeof table, 1, term, 2 * TOKENS, out, sizeof out);
+        sharing_running ran = sharing_run(side, table, sizeof table, equations, sizeof equations);
+        if (code != SHARING_ACCEPTED || ran.code != SHARING_ACCEPTED)
+            return printf("side %u: %u, and %u of the run\n", (unsigned)side, (unsigned)code, (unsigned)ran.code);
+    }
+    return 0;
+}
+
+int main(void) {
+    static uint8_t term[2 * TOKENS];
+    const unsigned shapes[][2] = {{TOKENS - 1, 1}, {1, 2}, {3, 15}};
+    for (size_t i = 0; i < sizeof shapes / sizeof shapes[0]; i++) {
+        nest(term, shapes[i][0], shapes[i][1]);
+        if (answers(term) != 0)
+            return 1;
+    }
+    return 0;
+}
