@@ -5,9 +5,6 @@ use borrow.Author.Needs.{needs}
 use Rattle.paper_examples.proofs.TextLaws.{Written, string-inside, strings-few, write-start, write-turn, write-end}
 use Rattle.paper_examples.proofs.read_table.Statement.{statement}
 use Rattle.paper_examples.proofs.read_table.Tie as tie
-use Rattle.paper_examples.proofs.read_table.Reads as reads
-use Rattle.paper_examples.proofs.read_table.Lts as lts
-use Rattle.paper_examples.proofs.read_string.Reads as read-string-reads
 
 abbrev Inv-loop : tie.InvT-loop
 Inv-loop l text step n care₀ value₀ i₀ care value i = (i ≤ n) × Written l text care value i
