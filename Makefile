@@ -4,7 +4,7 @@
 # make runs      sharerun on stored cases and against plain Rust
 # make tools     the text front end
 # make examples  the C interface: header, refusals and examples, in place and installed
-# make bench     times ours against plain Rust and prints ratios
+# make bench     times ours against plain Rust and prints ratios; make same only sees that both give the same
 # make install   the header, the library, its pkg-config file and the examples, under PREFIX
 .PHONY: run test plain bench same calls runs tools stack fmt library examples install
 
