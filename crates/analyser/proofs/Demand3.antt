@@ -24,7 +24,7 @@ use Rattle.forms.proofs.Reading.{read-good}
 use Rattle.byte_calls.specs.Calls.{tokens-of, term-call}
 use Rattle.outputs.specs.Outputs.{put-answer, put-bytes}
 use Rattle.running.specs.declared.Running.{Running}
-use Rattle.running.specs.States.{state, after-answer, advanced, go-on, run-from, run-state}
+use Rattle.running.specs.States.{state, after-answer, advanced, go-on, run-from, run-on, run-state}
 use Rattle.analyser.specs.Demand3.{equation-given, event-of, Returns, written, kept, Calls, end, value, bytes}
 use Rattle.analyser.specs.Demand3.{Step, steps, step-events, run-events}
 use Rattle.analyser.proofs.Equations.{accepted-exact, refused-kept, stepped}
@@ -170,7 +170,7 @@ module _ (side : ℕ) where
       → (θ θ′ : Bindings) → Describes (groups-of (side-told side) t) θ
       → Reaches θ (run-events (t .l) (run-state side b q .applied) (equations-of (first-size q) (second-size q) q)) θ′
       → GoodTable (run-state side b q .table) × Describes (groups-of (side-told side) (run-state side b q .table)) θ′
-  unfolding run-state go-on
+  unfolding run-state run-on go-on
   run-described b q t reads checked θ θ′ d r =
       let ws = equations-of (first-size q) (second-size q) q in
       let is : run-state side b q ≡ run-from side t 0 ws = rw (reads, checked) in

@@ -21,11 +21,11 @@ use Rattle.forms.specs.Tables.{read-table}
 use Rattle.forms.specs.Equations.{check-equations}
 use Rattle.forms.proofs.Reading.{read-good}
 use Rattle.running.specs.declared.Running.{Running}
-use Rattle.running.specs.States.{none-applied, go-on, run-from}
+use Rattle.running.specs.States.{none-applied, go-on, run-from, run-on}
 use Rattle.analyser.specs.Demand3.{run-events}
 use Rattle.analyser.proofs.Demand3.{from-described}
 use Rattle.run_text.specs.declared.Reported.{Reported}
-use Rattle.report.specs.Reports.{most-input, after-table, equations-in, rest-run, input-run, input-text, narrowed, fits-in}
+use Rattle.report.specs.Reports.{most-input, after-table, equations-in, input-run, input-text, narrowed, fits-in}
 use Rattle.report.specs.Reports.{told, report-of}
 
 -- Whatever the output, a report that is not refused 9 returns the state of the run.
@@ -51,7 +51,7 @@ pub report-described : (input out : List ℕ) (t : Table) → length input ≤ m
     → (θ θ′ : Bindings) → Describes (groups-of positive t) θ
     → Reaches θ (run-events (t .l) (report-of input out .state .applied) (equations-in (after-table input))) θ′
     → GoodTable (report-of input out .state .table) × Describes (groups-of positive (report-of input out .state .table)) θ′
-unfolding input-run rest-run go-on side-told
+unfolding input-run run-on go-on side-told
 report-described input out t few reads checked other θ θ′ d r =
     let ws = equations-in (after-table input) in
     let run : input-run input ≡ run-from 0 t 0 ws = rw (le-leb (length input) most-input few, reads, checked) in

@@ -19,12 +19,12 @@ use Rattle.forms.specs.Equations.{check-equations}
 use Rattle.forms.proofs.Tests.{reads-passed}
 use Rattle.forms.proofs.Reading.{read-good}
 use Rattle.running.specs.declared.Running.{Running}
-use Rattle.running.specs.States.{none-applied, go-on, run-from}
+use Rattle.running.specs.States.{none-applied, go-on, run-from, run-on}
 use Rattle.run_text.specs.declared.Pass.the-variants.{Measure, Write}
 use Rattle.run_text.specs.Passes.{passed}
 use Rattle.report.specs.Reports.{most-input, after-table, equations-in, refused-text, rest-text, input-text}
 use Rattle.run_text.specs.Runs.{text-on, run-text}
-use Rattle.report.specs.Reports.{rest-run, input-run, narrowed, told, fitted}
+use Rattle.report.specs.Reports.{input-run, narrowed, told, fitted}
 use Rattle.report.proofs.Fitting.{told-fits, told-narrow, fitted-fits, fitted-narrow}
 
 -- ---- Written at once, or measured and then written
@@ -56,13 +56,13 @@ module _ (s : Running) (text out : List ℕ) {out₁ : List ℕ} (measured : out
 
 module _ (t : Table) (q : List ℕ) where
   pub rest-refused : {r : Refusal} → check-equations (t .l) q ≡ Refused r
-      → (none-applied (refusal-number r) 0 ≡ rest-run t q) × (refused-text (refusal-number r) ≡ rest-text t q)
-  unfolding rest-run rest-text go-on text-on
+      → (none-applied (refusal-number r) 0 ≡ run-on 0 t q) × (refused-text (refusal-number r) ≡ rest-text t q)
+  unfolding run-on rest-text go-on text-on
   rest-refused e = (rw e, rw e)
 
   pub rest-goes : check-equations (t .l) q ≡ Accepted
-      → (run-from 0 t 0 (equations-in q) ≡ rest-run t q) × (run-text t (equations-in q) ≡ rest-text t q)
-  unfolding rest-run rest-text go-on text-on
+      → (run-from 0 t 0 (equations-in q) ≡ run-on 0 t q) × (run-text t (equations-in q) ≡ rest-text t q)
+  unfolding run-on rest-text go-on text-on
   rest-goes e = (rw e, rw e)
 
 -- ---- An input
@@ -102,7 +102,7 @@ module _ (input : List ℕ) where
       input-room = leb-true (table-length (second-size input)) (length input)
           (reads-passed Front input (accepts (a .table)) refl reads .0 .long)
 
-      pub input-goes : (rest-run (a .table) (after-table input) ≡ input-run input)
+      pub input-goes : (run-on 0 (a .table) (after-table input) ≡ input-run input)
           × (rest-text (a .table) (after-table input) ≡ input-text input)
       unfolding input-run input-text go-on text-on
       input-goes =

@@ -12,7 +12,7 @@ use Rattle.forms.specs.declared.Extent.the-variants.{Front}
 use Rattle.forms.specs.Tables.{first-size, second-size, table-length, read-table}
 use Rattle.forms.specs.Equations.{Written, equations-of, check-equations}
 use Rattle.running.specs.declared.Running.{Running}
-use Rattle.running.specs.States.{none-applied, go-on, run-from}
+use Rattle.running.specs.States.{none-applied, go-on, run-from, run-on}
 use Rattle.run_text.specs.declared.Reported.{Reported}
 use Rattle.text.specs.Text.{newline, decimal}
 use Rattle.run_text.specs.Lines.{refused}
@@ -55,18 +55,12 @@ input-text input =
 
 -- ---- The run
 
--- The run of a table that was read and the bytes after it, on the positive side. A refusal has applied none.
-unfoldable pub rest-run : Table → List ℕ → Running
-rest-run t q =
-    let c = check-equations (t .l) q in
-    go-on c (none-applied (answer-number c) 0) (run-from 0 t 0 (equations-in q))
-
--- The run of an input.
+-- The run of an input, on the positive side. A refusal has applied none.
 unfoldable pub input-run : List ℕ → Running
 input-run input =
     let a = read-table Front input in
     cond (leb (length input) most-input)
-    (go-on (a .answer) (none-applied (answer-number (a .answer)) 0) (rest-run (a .table) (after-table input)))
+    (go-on (a .answer) (none-applied (answer-number (a .answer)) 0) (run-on 0 (a .table) (after-table input)))
     (none-applied (refusal-number R.Torn) 0)
 
 -- ---- What is returned, and what is written
@@ -98,7 +92,7 @@ run-report t ws out = told (run-from 0 t 0 ws) (run-text t ws) out
 
 -- What is returned of a table that was read and the bytes after it.
 abbrev pub rest-report : Table → List ℕ → List ℕ → Reported
-rest-report t q out = told (rest-run t q) (rest-text t q) out
+rest-report t q out = told (run-on 0 t q) (rest-text t q) out
 
 -- What is returned of an input.
 abbrev pub report-of : List ℕ → List ℕ → Reported

@@ -26,7 +26,7 @@ use Rattle.forms.proofs.Reading.{read-good}
 use Rattle.forms.proofs.Walking.{later, Place, later-none, this, later-next, place-next, this-part}
 use Rattle.byte_calls.specs.Calls.{term-call}
 use Rattle.running.specs.declared.Running.{Running}
-use Rattle.running.specs.States.{state, counted, after-answer, advanced, none-applied, go-on, run-from, run-state}
+use Rattle.running.specs.States.{state, counted, after-answer, advanced, none-applied, go-on, run-from, run-on, run-state}
 
 -- ---- One equation of the running analysis
 
@@ -116,7 +116,7 @@ module _ (side : ℕ) (b q : List ℕ) {a : Answered} (told : a ≡ read-table W
       (go-on (check-equations (a .table .l) q) (none-applied (answer-number (check-equations (a .table .l) q)) side)
       (run-from side (a .table) 0 (equations-of (first-size q) (second-size q) q)))
       ≡ run-state side b q
-  unfolding run-state
+  unfolding run-state run-on
   as-read =
       ap (λ (y : Answered). go-on (y .answer) (none-applied (answer-number (y .answer)) side)
       (go-on (check-equations (y .table .l) q) (none-applied (answer-number (check-equations (y .table .l) q)) side)

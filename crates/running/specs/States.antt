@@ -59,14 +59,17 @@ run-from side t k (w ∷ ws) =
     let a = equation-call (side-told side) t (w .left) (w .tokens) in
     go-on (a .answer) (state (answer-number (a .answer)) side k (a .table)) (run-from side (a .table) (k + 1) ws)
 
+-- A run of a table that was read and the bytes of equations: all are checked first, and a refusal by then has applied none.
+unfoldable pub run-on : ℕ → Table → List ℕ → Running
+run-on side t q =
+    let c = check-equations (t .l) q in
+    go-on c (none-applied (answer-number c) side) (run-from side t 0 (equations-of (first-size q) (second-size q) q))
+
 -- A run: the table is read, then all equations are checked; a refusal by then has applied none.
 unfoldable pub run-state : ℕ → List ℕ → List ℕ → Running
 run-state side b q =
     let a = read-table Whole b in
-    let c = check-equations (a .table .l) q in
-    go-on (a .answer) (none-applied (answer-number (a .answer)) side)
-    (go-on c (none-applied (answer-number c) side)
-    (run-from side (a .table) 0 (equations-of (first-size q) (second-size q) q)))
+    go-on (a .answer) (none-applied (answer-number (a .answer)) side) (run-on side (a .table) q)
 
 -- ---- Writing the table of a state
 
