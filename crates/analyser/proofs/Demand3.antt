@@ -10,6 +10,7 @@ use Rattle.model.specs.Tables.{Side}
 use Rattle.model.specs.Bindings.{Bindings, Describes}
 use Rattle.model.specs.Calls.{Event, Reaches}
 use Rattle.tables.specs.declared.Table.{Table}
+use Rattle.tables.specs.declared.Refusal.{Refusal}
 use Rattle.tables.specs.declared.Answer.{Answer}
 use Rattle.tables.specs.declared.Answer.the-variants.{Accepted, Refused}
 use Rattle.tables.specs.declared.Answered.{Answered}
@@ -24,7 +25,7 @@ use Rattle.forms.proofs.Reading.{read-good}
 use Rattle.byte_calls.specs.Calls.{tokens-of, term-call}
 use Rattle.outputs.specs.Outputs.{put-answer, put-bytes}
 use Rattle.running.specs.declared.Running.{Running}
-use Rattle.running.specs.States.{state, after-answer, advanced, go-on, run-from, run-on, run-state}
+use Rattle.running.specs.States.{state, go-on, one-more, step-answered, after-answer, advanced, run-from, run-on, run-state}
 use Rattle.analyser.specs.Demand3.{equation-given, event-of, Returns, written, kept, Calls, end, value, bytes}
 use Rattle.analyser.specs.Demand3.{Step, steps, step-events, run-events}
 use Rattle.analyser.proofs.Equations.{accepted-exact, refused-kept, stepped}
@@ -88,16 +89,45 @@ calls-described side (bytes b t x term out {t′} {events} reads returns rest) g
 
 -- ---- The running analysis
 
+module _ (s : Running) (x : ℕ) (term : List ℕ) (good : GoodTable (s .table)) where
+  -- a refused equation returns the table of the state
+  step-kept : {n : Refusal} → step-answered s x term .answer ≡ Refused n → step-answered s x term .table ≡ s .table
+  step-kept {n} a = go (term-told (side-told (s .side)) (s .table) x term good)
+    where
+      go : TermTold (side-told (s .side)) (s .table) x term → step-answered s x term .table ≡ s .table
+      go (inl e) =
+          ap (λ (y : Answered). y .table) e
+          ∙ refused-kept (side-told (s .side)) (s .table) x (tokens-of term) good
+          (ap (λ (y : Answered). y .answer) (sym e) ∙ a)
+      go (inr (m, e)) = ap (λ (y : Answered). y .table) e
+
+  -- The state after an equation has the side that it had, and the table that the equation returned.
+  pub step-left : (advanced s x term .side ≡ s .side) × (advanced s x term .table ≡ step-answered s x term .table)
+  unfolding advanced after-answer go-on
+  step-left = go (step-answered s x term .answer) refl
+    where
+      go : (y : Answer) → step-answered s x term .answer ≡ y
+          → (go-on y s (state 0 (s .side) (one-more (s .applied)) (step-answered s x term .table)) .side ≡ s .side)
+          × (go-on y s (state 0 (s .side) (one-more (s .applied)) (step-answered s x term .table)) .table
+          ≡ step-answered s x term .table)
+      go Accepted e = (refl, refl)
+      go (Refused n) e = (refl, sym (step-kept e))
+
 -- Demand 3 of the running analysis.
 pub steps-described : (cs : List Step) (s : Running) → GoodTable (s .table) → (θ θ′ : Bindings)
     → Describes (groups-of (side-told (s .side)) (s .table)) θ → Reaches θ (step-events s cs) θ′
     → GoodTable (steps s cs .table) × Describes (groups-of (side-told (s .side)) (steps s cs .table)) θ′
-unfolding Reaches steps step-events advanced after-answer
+unfolding Reaches steps step-events
 steps-described [] s good θ θ′ d r = (good, rw r d)
 steps-described (c ∷ cs) s good θ θ′ d r =
     let next = advanced s (c .variable) (c .term) in
+    let left = step-left s (c .variable) (c .term) good in
     let g = term-stepped (side-told (s .side)) (s .table) (c .variable) (c .term) good (step-events next cs) θ θ′ d r in
-    steps-described cs next (g .1) (g .0) θ′ (g .2) (g .3)
+    let back = sym (left .1) in
+    let here = subst (λ (u : Table). Describes (groups-of (side-told (s .side)) u) (g .0)) back (g .2) in
+    let there = steps-described cs next (subst GoodTable back (g .1)) (g .0) θ′
+    (subst (λ (n : ℕ). Describes (groups-of (side-told n) (next .table)) (g .0)) (sym (left .0)) here) (g .3) in
+    (there .0, subst (λ (n : ℕ). Describes (groups-of (side-told n) (steps next cs .table)) θ′) (left .0) (there .1))
 
 -- ---- The run
 

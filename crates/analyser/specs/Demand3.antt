@@ -15,14 +15,14 @@ use Rattle.tables.specs.declared.Refusal.{Refusal}
 use Rattle.tables.specs.declared.Answer.{Answer}
 use Rattle.tables.specs.declared.Answer.the-variants.{Accepted, Refused}
 use Rattle.tables.specs.Values.{accepts}
-use Rattle.sharing.specs.Calls.{side-told, equation-call}
+use Rattle.sharing.specs.Calls.{equation-call}
 use Rattle.forms.specs.declared.Extent.the-variants.{Whole, Front}
 use Rattle.forms.specs.Tables.{read-table}
 use Rattle.forms.specs.Equations.{Written}
-use Rattle.byte_calls.specs.Calls.{tokens-of, term-call, equation-bytes}
+use Rattle.byte_calls.specs.Calls.{tokens-of, equation-bytes}
 use Rattle.outputs.specs.Outputs.{put-answer, put-bytes}
 use Rattle.running.specs.declared.Running.{Running}
-use Rattle.running.specs.States.{advanced}
+use Rattle.running.specs.States.{step-answered, advanced}
 
 -- ---- Events
 
@@ -73,15 +73,11 @@ unfoldable pub steps : Running → List Step → Running
 steps s [] = s
 steps s (c ∷ cs) = steps (advanced s (c .variable) (c .term)) cs
 
--- What a state answers to an equation.
-abbrev pub step-answer : Running → Step → Answer
-step-answer s c = term-call (side-told (s .side)) (s .table) (c .variable) (c .term) .answer
-
 -- What the model is fed of them.
 unfoldable pub step-events : Running → List Step → List Event
 step-events s [] = []
 step-events s (c ∷ cs) =
-    event-of (step-answer s c) (equation-given (s .table .l) (c .variable) (tokens-of (c .term)))
+    event-of (step-answered s (c .variable) (c .term) .answer) (equation-given (s .table .l) (c .variable) (tokens-of (c .term)))
     ∷ step-events (advanced s (c .variable) (c .term)) cs
 
 -- ---- The run

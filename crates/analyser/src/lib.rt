@@ -11,7 +11,7 @@ ghost use Rattle.byte_calls.specs.Calls.{change-side-bytes, equation-bytes, joi
 ghost use Rattle.byte_calls.specs.Calls.{ground-bytes, independent-bytes};
 ghost use Rattle.outputs.specs.Outputs.{put-number, put-bytes, reply-number, reply-word};
 ghost use Rattle.outputs.specs.Parts.{lent, smaller-part};
-ghost use Rattle.running.specs.States.{started, advanced, run-state, state-number, state-bytes};
+ghost use Rattle.running.specs.States.{started, step-number, advanced, run-state, state-number, state-bytes};
 
 // Reads a form, which grows its entries, and writes it again.
 #[no_mangle]
@@ -177,16 +177,17 @@ pub extern "C" fn sharing_start(side: u32, table: &[u8]) -> Running
     running::start(side, table)
 }
 
-// Applies one equation to a running analysis.
+// Applies one equation to a running analysis; a refusal leaves the whole state as it was.
 #[no_mangle]
 pub extern "C" fn sharing_step(state: &mut Running, variable: u32, term: &[u8]) -> u32
     ensures { λ r. ⌜
         (now (state .exit) ≡ advanced (now (state .entry)) variable (now (term .entry)))
-        × (r ≡ advanced (now (state .entry)) variable (now (term .entry)) .code)
+        × (r ≡ step-number (now (state .entry)) variable (now (term .entry)))
         ⌝ }
 {
-    *state = running::advance(*state, variable, term);
-    state.code
+    let stepped = running::advance(*state, variable, term);
+    *state = stepped.state;
+    stepped.number
 }
 
 // Writes the table of a running analysis.

@@ -26,15 +26,25 @@ use Rattle.forms.proofs.Reading.{read-good}
 use Rattle.forms.proofs.Walking.{later, Place, later-none, this, later-next, place-next, this-part}
 use Rattle.byte_calls.specs.Calls.{term-call}
 use Rattle.running.specs.declared.Running.{Running}
-use Rattle.running.specs.States.{state, counted, after-answer, advanced, none-applied, go-on, run-from, run-on, run-state}
+use Rattle.running.specs.States.{state, go-on, one-more, step-answered, step-number, after-answer, advanced, none-applied}
+use Rattle.running.specs.States.{run-from, run-on, run-state}
 
 -- ---- One equation of the running analysis
 
-pub advance-told : (s : Running) (x : ℕ) (term : List ℕ) {side : Side} {a : Answered} → side ≡ side-told (s .side)
-    → a ≡ term-call side (s .table) x term
-    → state (answer-number (a .answer)) (s .side) (counted (a .answer) (s .applied)) (a .table) ≡ advanced s x term
-unfolding advanced after-answer
-advance-told s x term e told = ap (after-answer s) (told ∙ ap (λ (d : Side). term-call d (s .table) x term) e)
+module _ (s : Running) (x : ℕ) (term : List ℕ) {side : Side} (e : side ≡ side-told (s .side)) {a : Answered}
+    (told : a ≡ term-call side (s .table) x term) where
+  answered : a ≡ step-answered s x term
+  answered = told ∙ ap (λ (d : Side). term-call d (s .table) x term) e
+
+  pub advance-refused : {r : Refusal} → a .answer ≡ Refused r
+      → (refusal-number r ≡ step-number s x term) × (s ≡ advanced s x term)
+  unfolding step-number advanced after-answer go-on
+  advance-refused f = rw (← answered, f) (refl, refl)
+
+  pub advance-accepted : a .answer ≡ Accepted
+      → (0 ≡ step-number s x term) × (state 0 (s .side) (one-more (s .applied)) (a .table) ≡ advanced s x term)
+  unfolding step-number advanced after-answer go-on
+  advance-accepted f = rw (← answered, f) (refl, refl)
 
 -- ---- The run
 

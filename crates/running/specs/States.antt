@@ -17,9 +17,14 @@ use Rattle.forms.specs.Equations.{Written, equations-of, check-equations}
 use Rattle.byte_calls.specs.Calls.{term-call}
 use Rattle.running.specs.declared.Running.{Running}
 
--- A state: the number of the last answer, the side as it was told, the number of accepted equations, the table.
+-- A state: the answer of the call that last wrote it, the side as it was told, the number of accepted equations, the table.
 abbrev pub state : ℕ → ℕ → ℕ → Table → Running
 state code side applied t = record { code = code; side = side; applied = applied; table = t }
+
+-- The second where accepted, else the first.
+unfoldable pub go-on : Answer → Running → Running → Running
+go-on Accepted stop next = next
+go-on (Refused r) stop next = stop
 
 -- ---- The running analysis
 
@@ -27,29 +32,32 @@ state code side applied t = record { code = code; side = side; applied = applied
 unfoldable pub started : ℕ → List ℕ → Running
 started side b = state (answer-number (read-table Whole b .answer)) side 0 (read-table Whole b .table)
 
--- One more where an equation was accepted; the count stays at its largest number.
-unfoldable pub counted : Answer → ℕ → ℕ
-counted Accepted k = cond (ltb k 4294967295) (k + 1) k
-counted (Refused r) k = k
+-- One more accepted equation; the count stays at its largest number.
+unfoldable pub one-more : ℕ → ℕ
+one-more k = cond (ltb k 4294967295) (k + 1) k
 
--- The state after an answer to an equation.
+-- What is answered to one equation, with its term as bytes.
+abbrev pub step-answered : Running → ℕ → List ℕ → Answered
+step-answered s x term = term-call (side-told (s .side)) (s .table) x term
+
+-- The number that a step returns.
+unfoldable pub step-number : Running → ℕ → List ℕ → ℕ
+step-number s x term = answer-number (step-answered s x term .answer)
+
+-- The state after an answer to an equation: a refusal leaves the whole state as it was; else `code` is 0, one more equation is
+-- counted, and the table is the one after it.
 unfoldable pub after-answer : Running → Answered → Running
-after-answer s a = state (answer-number (a .answer)) (s .side) (counted (a .answer) (s .applied)) (a .table)
+after-answer s a = go-on (a .answer) s (state 0 (s .side) (one-more (s .applied)) (a .table))
 
--- The state after one equation, with its term as bytes.
+-- The state after one equation.
 unfoldable pub advanced : Running → ℕ → List ℕ → Running
-advanced s x term = after-answer s (term-call (side-told (s .side)) (s .table) x term)
+advanced s x term = after-answer s (step-answered s x term)
 
 -- ---- The run
 
 -- A run that applied none, with a table all zero.
 abbrev pub none-applied : ℕ → ℕ → Running
 none-applied code side = state code side 0 zero-table
-
--- The second where accepted, else the first.
-unfoldable pub go-on : Answer → Running → Running → Running
-go-on Accepted stop next = next
-go-on (Refused r) stop next = stop
 
 -- The equations in order from table t, k of them before: the first that is refused ends the run, with the table and the number
 -- before it.

@@ -7,10 +7,10 @@ ghost use Prim.Native.Nat.{_≤_};
 ghost use lib.ListN.{length};
 ghost use Rattle.codec.specs.Numbers.{sum};
 ghost use Rattle.forms.specs.Equations.{equations-length, counts, equations-of};
-ghost use Rattle.running.specs.States.{counted, started, advanced, none-applied, run-from, run-state, state-number};
-ghost use Rattle.running.specs.States.{state-bytes};
+ghost use Rattle.running.specs.States.{one-more, started, step-number, advanced, none-applied, run-from, run-state};
+ghost use Rattle.running.specs.States.{state-number, state-bytes};
 
-// A running analysis: the number of the last answer, the side as it was told, how many equations were accepted, and the table.
+// A running analysis: the answer of the call that last wrote it, the side as it was told, how many equations were accepted, and the table.
 #[repr(C)]
 pub struct Running {
     pub code: u32,
@@ -34,32 +34,49 @@ pub fn start(side: u32, b: &[u8]) -> Running
     }
 }
 
-// One more where an equation was accepted. The count stays at its largest number.
-fn counted(a: Answer, k: u32) -> u32
-    ensures { λ r. ⌜ r ≡ counted a k ⌝ }
+// One more accepted equation. The count stays at its largest number.
+fn one_more(k: u32) -> u32
+    ensures { λ r. ⌜ r ≡ one-more k ⌝ }
 {
-    match a {
-        Answer::Refused(r) => k,
-        Answer::Accepted => { if k < 4294967295 { k + 1 } else { k } }
+    if k < 4294967295 {
+        return k + 1;
     }
+    k
 }
 
-// The state after the equation Xx = the term of the bytes.
-pub fn advance(s: Running, x: u32, term: &[u8]) -> Running
-    ensures { λ r. ⌜ r ≡ advanced s x (now (term .entry)) ⌝ }
+// The number that a step returns, and the state after it.
+pub struct Stepped {
+    pub number: u32,
+    pub state: Running,
+}
+
+// The equation Xx = the term of the bytes, on a state: a refusal leaves the whole state as it was.
+pub fn advance(s: Running, x: u32, term: &[u8]) -> Stepped
+    ensures { λ r. ⌜
+        (r .number ≡ step-number s x (now (term .entry))) × (r .state ≡ advanced s x (now (term .entry)))
+        ⌝ }
 {
     let t = s.table;
-    let number = s.side;
+    let told = s.side;
     let k = s.applied;
-    let side = sharing::side_numbered(number);
+    let side = sharing::side_numbered(told);
     let a = byte_calls::equation_term(side, t, x, term);
     let answer = a.answer;
     let u = a.table;
-    Running {
-        code: tables::answer_number(answer),
-        side: number,
-        applied: counted(answer, k),
-        table: u,
+    match answer {
+        Answer::Refused(r) => Stepped {
+            number: tables::refusal_number(r),
+            state: s,
+        },
+        Answer::Accepted => Stepped {
+            number: 0,
+            state: Running {
+                code: 0,
+                side: told,
+                applied: one_more(k),
+                table: u,
+            },
+        },
     }
 }
 

@@ -1,6 +1,6 @@
 -- `analyser::sharing_step` meets its contract: a walk of its MIR, by hand. The borrow is opened, the state is copied out
--- whole and passed to `advance`, what `advance` returns is stored whole, its code is read, and the borrow is closed at the
--- new state.
+-- whole and passed to `advance`, the state that `advance` returns is stored whole, its number is read, and the borrow is closed
+-- at the new state.
 -- All that the proof knows of `advance` is that it meets its contract. The state is plain data: what it owns is made anew
 -- from what is known of it.
 -- Assumes nothing.
@@ -48,10 +48,13 @@ use denote.Triple.Table.{entered, cited}
 use denote.Triple.Walked.{says, Stays, stay-ref, stay-dropped, walkOf, goes-ref, goes-dropped, Walks, ends-at, walked}
 use denote.Triple.Walked.{walk-meets}
 use denote.Exit.{yes}
-use Rattle.running.specs.States.{advanced}
+use Rattle.running.specs.States.{step-number, advanced}
 use Rattle.running.specs.declared.Running.{Running}
+use Rattle.running.specs.declared.Stepped.{Stepped}
 use Rattle.running.proofs.Running as T
 use Rattle.running.proofs.Running.Laws as T′
+use Rattle.running.proofs.Stepped as S
+use Rattle.running.proofs.Stepped.Laws as S′
 use Rattle.running.proofs.advance as g
 use Rattle.running.proofs.advance.Symbol as g-def
 use Rattle.running.proofs.advance.Symbol.{name as #advance}
@@ -61,8 +64,12 @@ use Rattle.analyser.proofs.sharing_step as f
 use Rattle.analyser.proofs.sharing_step.Statement as stated
 use Rattle.analyser.proofs.sharing_step.Code as code
 
+-- a state, and what `advance` returns
 abbrev R : RattleType
 R = T.the-row
+
+abbrev Q : RattleType
+Q = S.the-row
 
 -- at exit the body still owns the `&mut`; what the number and the slice own has gone to the callee
 abbrev stayed : Stays (f.ended .signature .params) (f.ended .kept)
@@ -95,8 +102,9 @@ module _ {M : Type 1} (𝓤 : URA M) (H : Heap 𝓤) (A : Atoms 𝓤) (W : Given
   abbrev Post : Val → SProp 𝓤
   Post = walkOf 𝓤 H A f.ended stayed (f.clauses 𝓤 H A at-mem run) .post (((κ, (κ′, tt)), (q, (q′, tt)), bounds, a, vals), tt)
 
-  abbrev found : Running
-  found = advanced h x (now t)
+  -- what is known of what `advance` returns
+  abbrev Found : Stepped → Type 0
+  Found r = (r .number ≡ step-number h x (now t)) × (r .state ≡ advanced h x (now t))
 
   -- the call: what the callee's triple binds outside, what it asks, and what is known of its result
   abbrev to : Callee 𝓤 H A at-mem run .Ghost
@@ -111,29 +119,31 @@ module _ {M : Type 1} (𝓤 : URA M) (H : Heap 𝓤) (A : Atoms 𝓤) (W : Given
       (owns (u32 ∷ ShrSlice (named 1) κ′ u8 ∷ []) (x, (t, tt)) (vint w32 x ∷ [], (v ∷ [], tt))) ∷ []) ∵
       move ! (1 ∷ 2 ∷ []) $ fjoin ! $ move ! (1 ∷ 0 ∷ []) $ join ! $ frame ! $ done !
 
-  said : (r : Running) → ent 𝓤 (ensured 𝓤 H A g.ended (g.clauses 𝓤 H A at-mem run) (κ′, tt) (h, (x, (t, tt))) tt r)
-      (fact 𝓤 (r ≡ found))
-  said r = exE 𝓤 _ (λ ws. snd∗ 𝓤 (sem 𝓤 H A (lasts g.ended (κ′, tt) (h, (x, (t, tt))) ws)) (fact 𝓤 (r ≡ found)))
+  said : (r : Stepped) → ent 𝓤 (ensured 𝓤 H A g.ended (g.clauses 𝓤 H A at-mem run) (κ′, tt) (h, (x, (t, tt))) tt r)
+      (fact 𝓤 (Found r))
+  said r = exE 𝓤 _ (λ ws. snd∗ 𝓤 (sem 𝓤 H A (lasts g.ended (κ′, tt) (h, (x, (t, tt))) ws)) (fact 𝓤 (Found r)))
 
-  -- what is known of a state, at its machine value as it is spelled
-  known-as : (r : Running) (u : Val) → Is R r (u ∷ []) → Is R r (mach r ∷ [])
-  known-as r u is = subst (λ (vs : List Val). Is R r vs) (T′.lowers .val-is r (u ∷ []) is) is
+  -- what is known of the state that is returned, at its machine value as it is spelled
+  state-known : (r : Stepped) (u : Val) → Is Q r (u ∷ []) → Is R (r .state) (mach (r .state) ∷ [])
+  state-known r u is =
+      let known = LL.owed S.the-type S′.the-laws r _ is .1 .0 in
+      subst (λ (vs : List Val). Is R (r .state) vs) (T′.lowers .val-is (r .state) _ known) known
 
-  code-fits : (r : Running) (u : Val) → Is R r (u ∷ []) → r .code < 2 ^ 32
-  code-fits r u is = LL.owed T.the-type T′.the-laws r _ is .0 .1
+  number-fits : (r : Stepped) (u : Val) → Is Q r (u ∷ []) → r .number < 2 ^ 32
+  number-fits r u is = LL.owed S.the-type S′.the-laws r _ is .0 .1
 
-  exits : (r : Running) → r .code < 2 ^ 32 → r ≡ found → ent 𝓤
-      (⋆ 𝓤 H A (‵ (fobs γ (R .coded .code r)) ∷ ‵ (fbor κ (Body (mem R) b o γ)) ∷ ‵ (flft κ q) ∷
-      (‵ (flft κ′ q′) ⊛ ‵ ftrue) ∷ [])) (Post (vint w32 (r .code)))
+  exits : (r : Stepped) → r .number < 2 ^ 32 → Found r → ent 𝓤
+      (⋆ 𝓤 H A (‵ (fobs γ (R .coded .code (r .state))) ∷ ‵ (fbor κ (Body (mem R) b o γ)) ∷ ‵ (flft κ q) ∷
+      (‵ (flft κ′ q′) ⊛ ‵ ftrue) ∷ [])) (Post (vint w32 (r .number)))
   exits r fits e =
-      qed W (‵ (fobs γ (R .coded .code r)) ∷ ‵ (fbor κ (Body (mem R) b o γ)) ∷ ‵ (flft κ q) ∷ (‵ (flft κ′ q′) ⊛ ‵ ftrue) ∷
-      []) ∵
+      qed W (‵ (fobs γ (R .coded .code (r .state))) ∷ ‵ (fbor κ (Body (mem R) b o γ)) ∷ ‵ (flft κ q) ∷
+      (‵ (flft κ′ q′) ⊛ ‵ ftrue) ∷ []) ∵
       suffices ! _ (ends-at 𝓤 H A f.ended stayed (f.clauses 𝓤 H A at-mem run) W
-      (((κ, (κ′, tt)), (q, (q′, tt)), bounds, a, vals), tt) (vint w32 (r .code)) (r .code) (r, (tt, (tt, tt)))
-      (tt, (tt, (tt, tt)))) $ says ! (e, ap (λ (s : Running). s .code) e) $
+      (((κ, (κ′, tt)), (q, (q′, tt)), bounds, a, vals), tt) (vint w32 (r .number)) (r .number) (r .state, (tt, (tt, tt)))
+      (tt, (tt, (tt, tt)))) $ says ! (e .1, e .0) $
       move ! (2 ∷ 3 ∷ []) $ join ! $ frame ! $ feqI ! (List Val) (vptr b o ∷ []) (vptr b o ∷ []) refl $ fjoin3 ! $
       nothing ! $ nothing ! $ fjoin ! $ nothing ! $ fjoin ! $ move ! (1 ∷ 0 ∷ []) $ fjoin ! $ owned ! u32 (Is u32)
-      (uint-makes 𝓤 H A W w32) (r .code) _ (refl, fits) $ move ! (1 ∷ 0 ∷ []) $ done !
+      (uint-makes 𝓤 H A W w32) (r .number) _ (refl, fits) $ move ! (1 ∷ 0 ∷ []) $ done !
 
   module _ (C : Calls 𝓤 H) (Λ : Loops 𝓤 H) (fm : FmC 𝓤 H (W .laws) C)
       (known : Triple 𝓤 (C #advance) (Callee 𝓤 H A at-mem run)) where
@@ -165,28 +175,28 @@ module _ {M : Type 1} (𝓤 : URA M) (H : Heap 𝓤) (A : Atoms 𝓤) (W : Given
         (and-then ! (load ! (from ! (stop !)) (look ! 5 refl))
         (and-then ! (load ! (from ! (stop !)) (look ! 11 refl))
         (and-then ! (load ! (from ! (stop !)) (look ! 9 refl)) (no-more !)))) (λ u.
-        use1 W (later (some (λ (r : Running). ((‵ (flft κ′ q′) ⊛ ‵ ftrue) ⊛ ‵ (R .own r (u ∷ []))) ⊛ raw
+        use1 W (later (some (λ (r : Stepped). ((‵ (flft κ′ q′) ⊛ ‵ ftrue) ⊛ ‵ (Q .own r (u ∷ []))) ⊛ raw
         (ensured 𝓤 H A g.ended (g.clauses 𝓤 H A at-mem run) (κ′, tt) (h, (x, (t, tt))) tt r)))) (id⊢ 𝓤 _) $ await ! tt
         $ pick ! (λ r.
-        split ! $ move ! (1 ∷ []) $ use1 W (raw (fact 𝓤 (r ≡ found))) (said r) $ heard ! (r ≡ found)
-        (λ e. split ! $ move ! (1 ∷ []) $ peeks ! R (Is R) (shows 𝓤 H A R) r (u ∷ []) (λ is.
+        split ! $ move ! (1 ∷ []) $ use1 W (raw (fact 𝓤 (Found r))) (said r) $ heard ! (Found r)
+        (λ e. split ! $ move ! (1 ∷ []) $ peeks ! Q (Is Q) (shows 𝓤 H A Q) r (u ∷ []) (λ is.
         -- [what the result owns; the slice's token; the state's cell; the open borrow; obs; auth; _5; …; room for _4; …; _3;
         -- …; _2; …; _1; …; room for _0; …]
-        land ! (from ! (stop !)) (init ! 8 refl (LL.lawful T.the-type T′.the-laws 𝓤 H A W .typed r _ is .0)) $ rewrite ! 8
-        (λ (w : Val). ‵ (fat fullShare T′.mir l₄ 0 w)) (ap only (T′.lowers .val-is r (u ∷ []) is)) refl $
-        assigns ! (of-opd ! (load ! (from ! (stop !)) (look ! 8 refl))) (from ! (hop ! (look ! 14 refl) (stop !)))
-        (store-raw ! 2 refl (LL.lawful T.the-type T′.the-laws 𝓤 H A W .typed r _ (known-as r u is) .0)) $
-        assigns ! (of-opd ! (load ! (from ! (hop ! (look ! 14 refl) (fld ! refl (stop !))))
-        (look-in ! 2 (sub ! 0 refl (whole !))))) (from ! (stop !))
-        (init ! 16 refl (tt, record { fits = code-fits r u is })) $
+        land ! (from ! (stop !)) (init ! 8 refl (LL.lawful S.the-type S′.the-laws 𝓤 H A W .typed r _ is .0)) $ rewrite ! 8
+        (λ (w : Val). ‵ (fat fullShare S′.mir l₄ 0 w)) (ap only (S′.lowers .val-is r (u ∷ []) is)) refl $
+        assigns ! (of-opd ! (load ! (from ! (fld ! refl (stop !))) (look-in ! 8 (sub ! 1 refl (whole !)))))
+        (from ! (hop ! (look ! 14 refl) (stop !)))
+        (store-raw ! 2 refl (LL.lawful T.the-type T′.the-laws 𝓤 H A W .typed (r .state) _ (state-known r u is) .0)) $
+        assigns ! (of-opd ! (load ! (from ! (fld ! refl (stop !))) (look-in ! 8 (sub ! 0 refl (whole !))))) (from ! (stop !))
+        (init ! 16 refl (tt, record { fits = number-fits r u is })) $
         -- the borrow is closed at the new state
-        drop ! $ owned ! R (Is R) (LL.makes T.the-type T′.the-plain 𝓤 H A) r _ (known-as r u is) $ move !
-        (2 ∷ 0 ∷ 3 ∷ 4 ∷ 5 ∷ []) $ closes ! tt R r (mach r ∷ []) b o $
+        drop ! $ owned ! R (Is R) (LL.makes T.the-type T′.the-plain 𝓤 H A) (r .state) _ (state-known r u is) $ move !
+        (2 ∷ 0 ∷ 3 ∷ 4 ∷ 5 ∷ []) $ closes ! tt R (r .state) (mach (r .state) ∷ []) b o $
         returns ! (look ! 14 refl) $ forget ! 4 refl $ forget ! 6 refl $ forget ! 8 refl $ forget ! 10 refl $ forget ! 12
         refl $ forget ! 14 refl $
         move ! (14 ∷ 15 ∷ []) $ free1 ! $ move ! (12 ∷ 13 ∷ []) $ free1 ! $ move ! (10 ∷ 11 ∷ []) $ free1 ! $ move !
         (8 ∷ 9 ∷ []) $ free1 ! $ move ! (6 ∷ 7 ∷ []) $ free1 ! $ move ! (4 ∷ 5 ∷ []) $ free1 ! $ free0 ! $
-        keep ! (0 ∷ 1 ∷ 2 ∷ 3 ∷ []) $ by ! (exits r (code-fits r u is) e)))))))))))))
+        keep ! (0 ∷ 1 ∷ 2 ∷ 3 ∷ []) $ by ! (exits r (number-fits r u is) e)))))))))))))
 
 module _ {M : Type 1} (𝓤 : URA M) (H : Heap 𝓤) (A : Atoms 𝓤) (W : Given 𝓤 H A) (at-mem : Memory → SProp 𝓤)
     (run : Routine → Fun 𝓤) where

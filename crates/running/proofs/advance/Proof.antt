@@ -1,5 +1,7 @@
+use mathlib.Core.Path.{_∙_, ap}
 use borrow.Author.Needs.{needs}
-use Rattle.running.proofs.Steps.{advance-told}
+use Rattle.running.specs.States.{state}
+use Rattle.running.proofs.Steps.{advance-refused, advance-accepted}
 use Rattle.running.proofs.advance.Statement.{statement}
 use Rattle.running.proofs.advance.Tie as tie
 
@@ -9,22 +11,40 @@ side-numbered-requires c κs = search needs
 equation-term-requires : tie.Need-equation-term-requires
 equation-term-requires c κs = search needs
 
-answer-number-requires : tie.Need-answer-number-requires
-answer-number-requires c κs = search needs
+enum-known-answer : tie.Need-enum-known-answer
+enum-known-answer c = search needs
 
-counted-requires : tie.Need-counted-requires
-counted-requires c κs = search needs
+refusal-number-requires : tie.Need-refusal-number-requires
+refusal-number-requires c κs = search needs
+
+enum-told : tie.Need-enum-told
+enum-told c = search needs
+
+one-more-requires : tie.Need-one-more-requires
+one-more-requires c κs = search needs
 
 returns : tie.Need-returns
 returns c =
-    let at-answer-number = c .before in
-    let at-equation-term = at-answer-number .before .before in
+    let at-answer = c .before .before in
+    let at-equation-term = at-answer .before .before .before in
     let at-side-numbered = at-equation-term .before in
     let at-start = at-side-numbered .before .before .before in
-    rw (at-answer-number .answer-number .ensures, c .counted .ensures)
-    (advance-told (at-start .args .s) (at-start .args .x) (at-start .args .term .now)
-    (at-side-numbered .side-numbered .ensures) (at-equation-term .equation-term .ensures))
+    let told = advance-refused (at-start .args .s) (at-start .args .x) (at-start .args .term .now)
+    (at-side-numbered .side-numbered .ensures) (at-equation-term .equation-term .ensures) (at-answer .answer .given .1) in
+    (c .refusal-number .ensures ∙ told .0, told .1)
+
+returns-2 : tie.Need-returns-2
+returns-2 c =
+    let at-enum-told = c .before in
+    let at-equation-term = at-enum-told .before .before .before in
+    let at-side-numbered = at-equation-term .before in
+    let at-start = at-side-numbered .before .before .before in
+    let told = advance-accepted (at-start .args .s) (at-start .args .x) (at-start .args .term .now)
+    (at-side-numbered .side-numbered .ensures) (at-equation-term .equation-term .ensures) (at-enum-told .enum-told .given .1) in
+    rw (c .one-more .ensures) told
 
 pub advance-spec : {M : Type 1} → statement M
-advance-spec = tie.close
-    (tie.spec side-numbered-requires equation-term-requires answer-number-requires counted-requires returns)
+advance-spec =
+    tie.close
+    (tie.spec side-numbered-requires equation-term-requires enum-known-answer refusal-number-requires enum-told
+    one-more-requires returns returns-2)
