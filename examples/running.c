@@ -27,11 +27,10 @@ static void expect(uint32_t due, uint32_t code, const char *call) {
     }
 }
 
-/* The state is open to read: the last answer, the equations accepted so far, and the table. */
-static void print_state(const char *what, const sharing_running *state) {
+/* An answer, then the state, which is open to read: equations accepted so far, and the table. */
+static void print_state(const char *what, uint32_t answer, const sharing_running *state) {
     const sharing_table *table = &state->table;
-    printf("%-24s answer %u, applied %u, table", what, (unsigned)state->code,
-           (unsigned)state->applied);
+    printf("%-24s answer %u, applied %u, table", what, (unsigned)answer, (unsigned)state->applied);
     for (size_t i = 0; i < table->n; i++) {
         putchar(' ');
         for (uint32_t x = 0; x < table->l; x++)
@@ -64,19 +63,21 @@ static void print_smaller(const char *what, const sharing_running *state) {
 int main(void) {
     sharing_running state = sharing_start(SHARING_POSITIVE, start_form, sizeof start_form);
     expect(SHARING_ACCEPTED, state.code, "sharing_start");
-    print_state("start", &state);
+    print_state("start", state.code, &state);
     print_smaller("smaller at the start", &state);
 
-    expect(SHARING_ACCEPTED, sharing_step(&state, 1, after_wedding, sizeof after_wedding),
-           "sharing_step");
-    print_state("Baptism = after(Wedding)", &state);
+    uint32_t answer = sharing_step(&state, 1, after_wedding, sizeof after_wedding);
+    expect(SHARING_ACCEPTED, answer, "sharing_step");
+    print_state("Baptism = after(Wedding)", answer, &state);
 
-    /* A refused equation leaves its number as the answer and the rest of the state as it was. */
-    expect(SHARING_NAME, sharing_step(&state, 4, ashby, sizeof ashby), "sharing_step");
-    print_state("X4 = ashby", &state);
+    /* A refused equation returns its number and leaves the whole state as it was. */
+    answer = sharing_step(&state, 4, ashby, sizeof ashby);
+    expect(SHARING_NAME, answer, "sharing_step");
+    print_state("X4 = ashby", answer, &state);
 
-    expect(SHARING_ACCEPTED, sharing_step(&state, 3, ashby, sizeof ashby), "sharing_step");
-    print_state("Parish = ashby", &state);
+    answer = sharing_step(&state, 3, ashby, sizeof ashby);
+    expect(SHARING_ACCEPTED, answer, "sharing_step");
+    print_state("Parish = ashby", answer, &state);
     print_smaller("smaller at the end", &state);
     return EXIT_SUCCESS;
 }

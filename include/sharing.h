@@ -37,7 +37,7 @@
  *
  * Rules for every call
  *   - A call that returns a number returns 0 where it is accepted, else the number of the first
- *     refusal that it meets. It then has written nothing, apart from `code` in sharing_step.
+ *     refusal that it meets. It then has written nothing.
  *   - Below, 8 stands for "the call needs entry 257", 9 for "out is too short for the form".
  *   - side: 0 is positive, any other number negative.
  *   - A buffer is a pointer and the number of its elements. No pointer is ever null, also where
@@ -96,7 +96,7 @@ typedef struct {
 
 /* A running analysis, or the end of a run. */
 typedef struct {
-    uint32_t code;    /* the last answer: 0, or the number of a refusal */
+    uint32_t code;    /* the answer of the call that last wrote this state; see sharing_step */
     uint32_t side;    /* the side, as it was given */
     uint32_t applied; /* how many equations were accepted; it stays at UINT32_MAX */
     sharing_table table;
@@ -231,11 +231,11 @@ sharing_running sharing_start(uint32_t side, const uint8_t *table, size_t table_
 /*
  * One more equation of a running analysis, "variable = term".
  * Reads *state and term. Writes *state: its table after the equation, `applied` one more, and
- * `code`. Returns `code`.
+ * `code` 0.
  * Refusals in order, of the table in *state: 2 where l is not 1 to 16; 3 where n is above 256; 4
  * where an entry has a bit above l or a value bit where care is 0, or an entry past n is not
  * zero; then TERM; 8.
- * After a refusal: `code` holds its number, and the rest of *state is as it was.
+ * After a refusal: the whole of *state is as it was, `code` too; the number is only returned.
  */
 uint32_t sharing_step(sharing_running *state, uint32_t variable, const uint8_t *term,
                       size_t term_len);

@@ -94,6 +94,15 @@ static int is_zero(const sharing_running *state) {
     return zero;
 }
 
+/* Do two states hold the same, `code` too? */
+static int same_state(const sharing_running *state, const sharing_running *other) {
+    return state->code == other->code && state->side == other->side &&
+           state->applied == other->applied && state->table.l == other->table.l &&
+           state->table.n == other->table.n &&
+           memcmp(state->table.care, other->table.care, sizeof other->table.care) == 0 &&
+           memcmp(state->table.value, other->table.value, sizeof other->table.value) == 0;
+}
+
 /* The refusals of a table's form come before all others of the call. */
 static void refuse_table(bad_form bad) {
     const uint8_t *form = bad.bytes;
@@ -112,22 +121,20 @@ static void refuse_table(bad_form bad) {
     EXPECT(bad.due, started.code);
     HOLDS(started.side == 1 && is_zero(&started));
     EXPECT(SHARING_WIDTH, sharing_step(&started, FAR, BYTES(zeros)));
+    EXPECT(bad.due, started.code);
     EXPECT(SHARING_WIDTH, sharing_write(&started, out, 0));
     sharing_running ran = sharing_run(0, form, len, zeros, 3);
     EXPECT(bad.due, ran.code);
     HOLDS(is_zero(&ran));
 }
 
-/* The refusals of an equation, of one call and of a step, which keeps its table. */
+/* The refusals of an equation, of one call and of a step, which keeps its whole state. */
 static void refuse_equation(bad_equation bad) {
     EXPECT(bad.due, sharing_equation(1, BYTES(good), bad.variable, bad.term, bad.len, out, 0));
     sharing_running state = sharing_start(0, BYTES(good)), before;
     memcpy(&before, &state, sizeof state);
     EXPECT(bad.due, sharing_step(&state, bad.variable, bad.term, bad.len));
-    HOLDS(state.code == bad.due && state.applied == 0 && state.side == 0);
-    HOLDS(memcmp(state.table.care, before.table.care, sizeof before.table.care) == 0 &&
-          memcmp(state.table.value, before.table.value, sizeof before.table.value) == 0 &&
-          state.table.l == before.table.l && state.table.n == before.table.n);
+    HOLDS(same_state(&state, &before));
 }
 
 /* The refusals of the form of equations. */
@@ -189,7 +196,7 @@ static void refuse_value(uint32_t due, const sharing_running *state) {
     EXPECT(due, sharing_write(&copy, out, 0));
     HOLDS(copy.code == SHARING_ACCEPTED);
     EXPECT(due, sharing_step(&copy, FAR, BYTES(zeros)));
-    HOLDS(copy.code == due && copy.applied == 0);
+    HOLDS(same_state(&copy, state));
 }
 
 static void refuse_values(void) {
@@ -249,7 +256,7 @@ static void refuse_full_equation(void) {
     sharing_running state = sharing_start(0, BYTES(alone));
     EXPECT(SHARING_ACCEPTED, sharing_step(&state, 1, variable_2, 2));
     EXPECT(SHARING_FULL, sharing_step(&state, 1, BYTES(term)));
-    HOLDS(state.code == SHARING_FULL && state.applied == 1 && state.table.n == 15);
+    HOLDS(state.code == SHARING_ACCEPTED && state.applied == 1 && state.table.n == 15);
     state = sharing_run(0, BYTES(alone), BYTES(run));
     HOLDS(state.code == SHARING_FULL && state.applied == 1 && state.table.n == 16);
 }

@@ -10,7 +10,8 @@ use crate::values;
 /// The state of a running analysis.
 #[derive(Clone, Debug, PartialEq, Eq)]
 pub struct Running {
-    /// The last answer: 0 where accepted, else the refusal's number.
+    /// The answer of the call that last wrote the state: 0 where accepted, else the refusal's
+    /// number. A refused step writes nothing.
     pub code: u32,
     /// The side, as given: 0 is positive, any other number negative.
     pub side: u32,
@@ -41,7 +42,7 @@ impl Running {
         }
     }
 
-    /// Applies one checked equation; a full one leaves the table and the count.
+    /// One checked equation of a run; a full one leaves the table and the count, and its number.
     pub fn apply(&mut self, equation: &Equation) -> Result<(), Refusal> {
         let side = Side::of_number(self.side);
         let (x, set) = (u32::from(equation.left), variables(&equation.term));
@@ -50,13 +51,15 @@ impl Running {
             l: self.table.l,
             entries,
         });
-        self.record(outcome)
+        let taken = self.record(outcome);
+        self.code = number_of(&taken);
+        taken
     }
 
-    /// Takes the outcome of an equation into the state.
+    /// Takes the outcome of an equation into the state; a refusal leaves all of it as it was.
     fn record(&mut self, outcome: Result<Table, Refusal>) -> Result<(), Refusal> {
-        self.code = number_of(&outcome);
         self.table = outcome?;
+        self.code = 0;
         self.applied = self.applied.saturating_add(1);
         Ok(())
     }
@@ -78,7 +81,7 @@ pub fn start(side: u32, table: &[u8]) -> Running {
     }
 }
 
-/// One equation of a running analysis; a refused one changes nothing but the last answer.
+/// One equation of a running analysis; a refused one changes nothing.
 pub fn step(state: &mut Running, variable: u32, term: &[u8]) -> u32 {
     let outcome = state.next_table(variable, term);
     number_of(&state.record(outcome))

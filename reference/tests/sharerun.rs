@@ -182,7 +182,7 @@ fn run_and_running_analysis_agree() {
 }
 
 #[test]
-fn refused_step_changes_only_the_last_answer() {
+fn refused_step_changes_nothing() {
     let given = pairs_table(9);
     let mut state = start(0, &form(&given));
     for (variable, term, number) in [
@@ -194,10 +194,13 @@ fn refused_step_changes_only_the_last_answer() {
         (0, vec![0; 3], 1),
     ] {
         assert_eq!(step(&mut state, variable, &term), number);
-        assert_eq!((state.code, state.applied), (number, 0));
+        assert_eq!((state.code, state.applied), (0, 0));
         assert_eq!(state.table, given);
     }
+    state.code = 8;
     state.applied = u32::MAX;
+    assert_eq!(step(&mut state, 17, &bytes_of([2])), 5);
+    assert_eq!((state.code, state.applied), (8, u32::MAX));
     assert_eq!(step(&mut state, 3, &bytes_of([head(0, 0)])), 0);
     assert_eq!((state.code, state.applied), (0, u32::MAX));
 }

@@ -162,8 +162,8 @@ module _ (side : ℕ) where
       → Follows t k ws r
   unfolding run-events Reaches
   none-follows t k ws r e same good θ θ′ d s =
-      let none : r .applied - k ≡ 0 = omega (arith, e) in
-      let here = rw none at s in
+      let start : r .applied - k ≡ 0 = omega (arith, e) in
+      let here = rw start at s in
       subst (λ (u : Table). GoodTable u × Describes (groups-of (side-told side) u) θ′) (sym (same good)) (good, rw here d)
 
   from-follows : (ws : List Written) (t : Table) (k : ℕ) → Follows t k ws (run-from side t k ws)
@@ -192,8 +192,8 @@ module _ (side : ℕ) where
       → Describes (groups-of (side-told side) t) θ → Reaches θ (run-events (t .l) (run-from side t 0 ws .applied) ws) θ′
       → GoodTable (run-from side t 0 ws .table) × Describes (groups-of (side-told side) (run-from side t 0 ws .table)) θ′
   from-described t ws good θ θ′ d r =
-      let none : run-from side t 0 ws .applied - 0 ≡ run-from side t 0 ws .applied = omega arith in
-      from-follows ws t 0 good θ θ′ d (rw none r)
+      let whole : run-from side t 0 ws .applied - 0 ≡ run-from side t 0 ws .applied = omega arith in
+      from-follows ws t 0 good θ θ′ d (rw whole r)
 
   -- Demand 3 of a run, wherever it stops: its list is the equations that it applied.
   pub run-described : (b q : List ℕ) (t : Table) → read-table Whole b ≡ accepts t → check-equations (t .l) q ≡ Accepted

@@ -4,7 +4,8 @@ use mathlib.Core.List.{List}
 use Prim.Native.Nat.{ℕ}
 use Rattle.tables.specs.declared.Answered.{Answered}
 use Rattle.questions.specs.declared.Reply.{Reply}
-use Rattle.outputs.specs.Outputs.{put-number, put-bytes, reply-number, reply-word}
+use Rattle.questions.specs.Replies.{reply-number, reply-word}
+use Rattle.outputs.specs.Outputs.{put-number, put-bytes}
 
 pub putting : (out : List ℕ) {a a′ : Answered} {r : ℕ} {out′ : List ℕ} → a ≡ a′ → r ≡ put-number a out → out′ ≡ put-bytes
     a out

@@ -9,7 +9,8 @@ ghost use Rattle.forms.specs.declared.Extent.the-variants.{Whole};
 ghost use Rattle.forms.specs.Tables.{read-table};
 ghost use Rattle.byte_calls.specs.Calls.{change-side-bytes, equation-bytes, join-bytes, projection-bytes, equal-bytes};
 ghost use Rattle.byte_calls.specs.Calls.{ground-bytes, independent-bytes};
-ghost use Rattle.outputs.specs.Outputs.{put-number, put-bytes, reply-number, reply-word};
+ghost use Rattle.questions.specs.Replies.{reply-number, reply-word};
+ghost use Rattle.outputs.specs.Outputs.{put-number, put-bytes};
 ghost use Rattle.outputs.specs.Parts.{lent, smaller-part};
 ghost use Rattle.running.specs.States.{started, step-number, advanced, run-state, state-number, state-bytes};
 

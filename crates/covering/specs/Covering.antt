@@ -14,7 +14,7 @@ use Rattle.words.specs.Words.{word}
 -- r is the index of an entry that matches y, or the count where none does.
 pub record Nearest (τ : Entries) (y : Trits) (r : ℕ) : Type 0 where
   pub found : r < length τ → matches (getD τ r []) y ≡ true
-  pub none : length τ ≤ r → (i : ℕ) → i < length τ → matches (getD τ i []) y ≡ false
+  pub no-match : length τ ≤ r → (i : ℕ) → i < length τ → matches (getD τ i []) y ≡ false
 
 -- r is the word of a string that matches y, and that covers all that y covers but what passes the test p.
 pub record Forces (p : Bits → Bool) (y : Trits) (r : Entry) : Type 0 where

@@ -34,10 +34,10 @@ second-size b = number-at b 2
 abbrev pub table-length : ℕ → ℕ
 table-length n = 4 + 4 * n
 
--- The length is right: exactly what the sizes give, or, where more may follow, not too short.
+-- The size is right: exactly what the sizes give, or, where more may follow, not too short.
 unfoldable pub fits : Extent → ℕ → ℕ → Bool
-fits Whole length room = eqb length room
-fits Front length room = leb length room
+fits Whole size room = eqb size room
+fits Front size room = leb size room
 
 -- The n care words.
 abbrev pub cares : ℕ → List ℕ → List ℕ
@@ -80,8 +80,8 @@ table-form t = bytes (t .l ∷ t .n ∷ (take (t .n) (t .care) ++ take (t .n) (t
 
 -- What writing a table into so many bytes answers: 2, 3, 4 of the table, then 9.
 unfoldable pub write-checked : Answer → ℕ → ℕ → Answer
-write-checked Accepted length room = cond (leb length room) Accepted (Refused R.Narrow)
-write-checked (Refused r) length room = Refused r
+write-checked Accepted size room = cond (leb size room) Accepted (Refused R.Narrow)
+write-checked (Refused r) size room = Refused r
 
 -- The same, for a table.
 unfoldable pub write-answer : Table → ℕ → Answer

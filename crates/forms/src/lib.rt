@@ -20,12 +20,12 @@ pub enum Extent {
 }
 
 // May a form of that length be read from so many bytes?
-fn fits(extent: Extent, length: usize, room: usize) -> bool
-    ensures { λ r. ⌜ r ≡ fits extent length room ⌝ }
+fn fits(extent: Extent, size: usize, room: usize) -> bool
+    ensures { λ r. ⌜ r ≡ fits extent size room ⌝ }
 {
     match extent {
-        Extent::Whole => length == room,
-        Extent::Front => length <= room,
+        Extent::Whole => size == room,
+        Extent::Front => size <= room,
     }
 }
 

@@ -54,17 +54,17 @@ pieces-covered [] [] [] m = rw pieces-nil
 pieces-covered [] [] (b ∷ g) m = rw pieces-nil
 pieces-covered [] (u ∷ v) g m = absurd m
 pieces-covered (t ∷ y) [] g m = absurd m
-pieces-covered (t ∷ y) (u ∷ v) [] m = rw (pieces-cons t u y v) (none (not (fixed-digit t) && fixed-digit u))
+pieces-covered (t ∷ y) (u ∷ v) [] m = rw (pieces-cons t u y v) (no-front (not (fixed-digit t) && fixed-digit u))
   where
     front-none : (τ : Entries) → covered (map (λ (s : Trits). t ∷ s) τ) [] ≡ false
     front-none [] = refl
     front-none (s ∷ τ) = front-none τ
 
-    none : (b : Bool)
+    no-front : (b : Bool)
         → covered (cond b ((flip u ∷ y) ∷ map (λ (s : Trits). t ∷ s) (pieces y v)) (map (λ (s : Trits). t ∷ s) (pieces y v))) []
         ≡ false
-    none true = front-none (pieces y v)
-    none false = front-none (pieces y v)
+    no-front true = front-none (pieces y v)
+    no-front false = front-none (pieces y v)
 pieces-covered (t ∷ y) (u ∷ v) (b ∷ g) m =
     rw (pieces-cons t u y v)
     (piece-step t u y v (map (λ (s : Trits). t ∷ s) (pieces y v)) b g (and-first (match-digit t u) (matches y v) m)

@@ -161,11 +161,11 @@ module _ (l : ℕ) (R : Entries) (c : Trits) (shape : Shape Unit l R) (len : len
 close-from-exact : (l : ℕ) (cs R : Entries) (P : Groups) → Stands l (Ors P) R → Wide l cs
     → Given (Stands l (Ors (λ h. P h ⊎ In cs h))) (fold close-with R cs)
 unfolding fold covered Wide
-close-from-exact l [] R P s w = given (stands-same (λ g. (ors-map (λ h p. inl p), ors-map none)) s)
+close-from-exact l [] R P s w = given (stands-same (λ g. (ors-map (λ h p. inl p), ors-map left)) s)
   where
-    none : (h : Bits) → P h ⊎ In [] h → P h
-    none h (inl p) = p
-    none h (inr q) = absurd (q .1)
+    left : (h : Bits) → P h ⊎ In [] h → P h
+    left h (inl p) = p
+    left h (inr q) = absurd (q .1)
 close-from-exact l (c ∷ cs) R P s w =
     given-then _ (close-with-exact l R c (s .shape) (w .0) P (s .exact))
     (λ ρ s′. given-map (λ υ. stands-same (λ g. (ors-map there, ors-map back)))
@@ -185,11 +185,11 @@ pub close-exact : (l : ℕ) (cs : Entries) → Wide l cs → Given (Stands l (Or
 unfolding close covered
 close-exact l cs w =
     given-map (λ ρ. stands-same (λ g. (ors-map there, ors-map (λ h q. inr q))))
-    (close-from-exact l cs [] (λ h. ⊥) (record { shape = empty-shape l; exact = λ g. (λ h. absurd (h .1), none) }) w)
+    (close-from-exact l cs [] (λ h. ⊥) (record { shape = empty-shape l; exact = λ g. (λ h. absurd (h .1), empty) }) w)
   where
-    none : {g : Bits} → Ors (λ h. ⊥) g → In [] g
-    none (one p) = absurd p
-    none (more p k) = absurd p
+    empty : {g : Bits} → Ors (λ h. ⊥) g → In [] g
+    empty (one p) = absurd p
+    empty (more p k) = absurd p
 
     there : (h : Bits) → ⊥ ⊎ In cs h → In cs h
     there h (inl p) = absurd p

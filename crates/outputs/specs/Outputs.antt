@@ -5,9 +5,7 @@ use lib.ListN.{length}
 use Rattle.tables.specs.declared.Answer.{Answer}
 use Rattle.tables.specs.declared.Answer.the-variants.{Accepted, Refused}
 use Rattle.tables.specs.declared.Answered.{Answered}
-use Rattle.tables.specs.Refusals.{refusal-number, answer-number}
-use Rattle.questions.specs.declared.Reply.{Reply}
-use Rattle.questions.specs.declared.Reply.the-variants as Q
+use Rattle.tables.specs.Refusals.{answer-number}
 use Rattle.forms.specs.Tables.{table-form, write-answer, written}
 
 -- The answer of a call that writes its table: 9 where the output is too short.
@@ -26,15 +24,3 @@ put-number a out = answer-number (put-answer a out)
 -- The bytes of the output afterwards: the form, and past it what they held; all that they held where the call is refused.
 unfoldable pub put-bytes : Answered → List ℕ → List ℕ
 put-bytes a out = written (put-answer a out) (table-form (a .table)) out
-
--- The number that a question returns.
-unfoldable pub reply-number : Reply → ℕ
-reply-number Q.Yes = 0
-reply-number Q.No = 0
-reply-number (Q.Refused r) = refusal-number r
-
--- The word of the answer afterwards: 1 for yes, 0 for no, and what it held where the question is refused.
-unfoldable pub reply-word : Reply → ℕ → ℕ
-reply-word Q.Yes w = 1
-reply-word Q.No w = 0
-reply-word (Q.Refused r) w = w

@@ -27,11 +27,11 @@ front k p = record { place = p .place; bytes = take k (p .bytes) }
 abbrev pub form : Part → Part
 form p = front (table-length (second-size (p .bytes))) p
 
--- The second where both are accepted, else the first.
+-- The last where both are accepted, else the one before it.
 unfoldable pub if-both : {A : Type 0} → Answer → Answer → A → A → A
-if-both Accepted Accepted none some = some
-if-both Accepted (Refused r) none some = none
-if-both (Refused r) b none some = none
+if-both Accepted Accepted stop next = next
+if-both Accepted (Refused r) stop next = stop
+if-both (Refused r) b stop next = stop
 
 -- The form with fewer entries by the n written; equal ones give the positive. Where either does not read or their l differ, an
 -- empty part; the papers leave free where an empty part stands, and it is the place of the positive buffer.

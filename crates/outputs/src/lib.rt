@@ -4,7 +4,8 @@ use questions::Reply;
 use tables::Answer;
 use tables::Answered;
 ghost use mathlib.Core.Path.{_≡_};
-ghost use Rattle.outputs.specs.Outputs.{put-number, put-bytes, reply-number, reply-word};
+ghost use Rattle.questions.specs.Replies.{reply-number, reply-word};
+ghost use Rattle.outputs.specs.Outputs.{put-number, put-bytes};
 ghost use Rattle.outputs.specs.Parts.{lent, smaller-part};
 
 // Writes the table of an accepted call: 9 where the output is too short. The number of the answer.
@@ -25,17 +26,8 @@ pub fn tell(reply: Reply, word: &mut u32) -> u32
     ensures number { λ r. ⌜ r ≡ reply-number reply ⌝ }
     ensures word { λ r. ⌜ now (word .exit) ≡ reply-word reply (now (word .entry)) ⌝ }
 {
-    match reply {
-        Reply::Yes => {
-            *word = 1;
-            0
-        }
-        Reply::No => {
-            *word = 0;
-            0
-        }
-        Reply::Refused(r) => tables::refusal_number(r),
-    }
+    *word = questions::reply_word(reply, *word);
+    questions::reply_number(reply)
 }
 
 // Of a positive and a negative form at the front of two buffers the one with fewer entries, as the part of the buffer that holds

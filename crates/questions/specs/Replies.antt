@@ -10,6 +10,7 @@ use Rattle.tables.specs.declared.Table.{Table}
 use Rattle.tables.specs.declared.Refusal.the-variants as R
 use Rattle.tables.specs.declared.Answer.{Answer}
 use Rattle.tables.specs.declared.Answer.the-variants as A
+use Rattle.tables.specs.Refusals.{refusal-number}
 use Rattle.tables.specs.Values.{entries-of, check-table}
 use Rattle.questions.specs.declared.Reply.{Reply}
 use Rattle.questions.specs.declared.Reply.the-variants.{Yes, No, Refused}
@@ -17,6 +18,18 @@ use Rattle.questions.specs.declared.Reply.the-variants.{Yes, No, Refused
 -- An answer as a reply.
 unfoldable pub replies : Bool → Reply
 replies b = cond b Yes No
+
+-- The number of a reply: 0 for yes and for no, else that of the refusal.
+abbrev pub reply-number : Reply → ℕ
+reply-number Yes = 0
+reply-number No = 0
+reply-number (Refused r) = refusal-number r
+
+-- The word of a reply, in place of the word w: 1 for yes, 0 for no, and w itself where the question is refused.
+abbrev pub reply-word : Reply → ℕ → ℕ
+reply-word Yes w = 1
+reply-word No w = 0
+reply-word (Refused r) w = w
 
 -- Where a table was refused by its own check, the question is; else it goes on.
 unfoldable pub after-check : Answer → Reply → Reply

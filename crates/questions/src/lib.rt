@@ -10,13 +10,35 @@ ghost use Rattle.model.specs.Questions.{equal as equal-lists, ground as ground-
 ghost use Rattle.words.specs.Words.{set};
 ghost use Rattle.tables.specs.Values.{GoodTable, entries-of};
 ghost use Rattle.sharing.specs.Calls.{side-of};
-ghost use Rattle.questions.specs.Replies.{replies, equal-call, ground-call, independent-call};
+ghost use Rattle.questions.specs.Replies.{replies, reply-number, reply-word, equal-call, ground-call, independent-call};
 
 // What a question is answered.
 pub enum Reply {
     Yes,
     No,
     Refused(Refusal),
+}
+
+// The number of a reply: 0 for yes and for no, else that of the refusal.
+pub fn reply_number(reply: Reply) -> u32
+    ensures { λ k. ⌜ k ≡ reply-number reply ⌝ }
+{
+    match reply {
+        Reply::Yes => 0,
+        Reply::No => 0,
+        Reply::Refused(r) => tables::refusal_number(r),
+    }
+}
+
+// The word of a reply, in place of the word w: 1 for yes, 0 for no, and w itself where the question is refused.
+pub fn reply_word(reply: Reply, w: u32) -> u32
+    ensures { λ k. ⌜ k ≡ reply-word reply w ⌝ }
+{
+    match reply {
+        Reply::Yes => 1,
+        Reply::No => 0,
+        Reply::Refused(r) => w,
+    }
 }
 
 // An answer as a reply.

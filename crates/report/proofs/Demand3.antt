@@ -34,11 +34,11 @@ pub told-state : (s : Running) (text out : List ℕ) → (told s text out .state
 unfolding told narrowed
 told-state s text out other = go (fits-in text out) (eqb (s .code) 0) other
   where
-    go : (b c : Bool) → ((cond {A = Reported} b (record { state = s; length = length text })
-        (record { state = cond c (none-applied (refusal-number R.Narrow) 0) s; length = 0 })) .state .code
+    go : (b c : Bool) → ((cond {A = Reported} b (record { state = s; size = length text })
+        (record { state = cond c (none-applied (refusal-number R.Narrow) 0) s; size = 0 })) .state .code
         ≡ refusal-number R.Narrow → ⊥)
-        → (cond {A = Reported} b (record { state = s; length = length text })
-        (record { state = cond c (none-applied (refusal-number R.Narrow) 0) s; length = 0 })) .state ≡ s
+        → (cond {A = Reported} b (record { state = s; size = length text })
+        (record { state = cond c (none-applied (refusal-number R.Narrow) 0) s; size = 0 })) .state ≡ s
     go true c other = refl
     go false true other = absurd (other refl)
     go false false other = refl

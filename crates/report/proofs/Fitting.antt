@@ -48,11 +48,11 @@ module _ (code : ℕ) where
 -- ---- What is returned, and what is written
 
 module _ (s : Running) (text out : List ℕ) where
-  pub told-fits : length text ≤ length out → record { state = s; length = length text } ≡ told s text out
+  pub told-fits : length text ≤ length out → record { state = s; size = length text } ≡ told s text out
   unfolding told
   told-fits h = rw (le-leb (length text) (length out) h)
 
-  pub told-narrow : length out < length text → record { state = narrowed s; length = 0 } ≡ told s text out
+  pub told-narrow : length out < length text → record { state = narrowed s; size = 0 } ≡ told s text out
   unfolding told
   told-narrow h = rw (lt-leb (length text) (length out) h)
 

@@ -40,14 +40,14 @@ module _ (s : Running) (text out : List ℕ) {out₁ : List ℕ} (measured : out
   kept-measured = measured
 
   pub both-fit : length text ≤ length out₁ → {out₂ : List ℕ} → out₂ ≡ passed Write out₁ 0 text
-      → (record { state = s; length = length text } ≡ told s text out) × (out₂ ≡ fitted text out)
+      → (record { state = s; size = length text } ≡ told s text out) × (out₂ ≡ fitted text out)
   unfolding passed
   both-fit h w =
       let fits : length text ≤ length out = omega (arith, h, ap length measured) in
       (told-fits s text out fits, w ∙ ap (λ (o : List ℕ). sets o 0 text) measured ∙ fitted-fits text out fits)
 
   pub both-narrow : length out₁ < length text
-      → (record { state = narrowed s; length = 0 } ≡ told s text out) × (out₁ ≡ fitted text out)
+      → (record { state = narrowed s; size = 0 } ≡ told s text out) × (out₁ ≡ fitted text out)
   both-narrow h =
       let short : length out < length text = omega (arith, h, ap length kept-measured) in
       (told-narrow s text out short, kept-measured ∙ fitted-narrow text out short)

@@ -11,13 +11,13 @@ use Rattle.running.specs.declared.Running.{Running}
 use Rattle.run_text.specs.declared.Reported.{Reported}
 use Rattle.report.specs.Reports.{narrowed, fits-in, told, fitted}
 
-told-within : (s : Running) (text out : List ℕ) → told s text out .length ≤ length out
+told-within : (s : Running) (text out : List ℕ) → told s text out .size ≤ length out
 unfolding told
 told-within s text out = go (fits-in text out) refl
   where
     go : (b : Bool) → fits-in text out ≡ b
-        → cond {A = Reported} b (record { state = s; length = length text }) (record { state = narrowed s; length = 0 })
-        .length
+        → cond {A = Reported} b (record { state = s; size = length text }) (record { state = narrowed s; size = 0 })
+        .size
         ≤ length out
     go true e = leb-true (length text) (length out) e
     go false e = omega arith
@@ -35,8 +35,8 @@ fitted-length text out = go (fits-in text out) refl
 
 -- what a report answers counts bytes at the start of the output
 pub report-within : (s : Running) (text out : List ℕ) {r : Reported} {out′ : List ℕ} → r ≡ told s text out
-    → out′ ≡ fitted text out → (r .length ≤ length out′) × (r .length ≡ length (take (r .length) out′))
+    → out′ ≡ fitted text out → (r .size ≤ length out′) × (r .size ≡ length (take (r .size) out′))
 report-within s text out {r} {out′} e f =
-    let fits : r .length ≤ length out′ =
-    omega (arith, ap (λ (x : Reported). x .length) e, told-within s text out, ap length f, fitted-length text out) in
-    (fits, sym (length-take-le (r .length) out′ fits))
+    let fits : r .size ≤ length out′ =
+    omega (arith, ap (λ (x : Reported). x .size) e, told-within s text out, ap length f, fitted-length text out) in
+    (fits, sym (length-take-le (r .size) out′ fits))

@@ -76,7 +76,7 @@ fits-in text out = leb (length text) (length out)
 -- What is returned of a run and its text: the state of the run, and the length of what was written.
 unfoldable pub told : Running → List ℕ → List ℕ → Reported
 told s text out =
-    cond (fits-in text out) (record { state = s; length = length text }) (record { state = narrowed s; length = 0 })
+    cond (fits-in text out) (record { state = s; size = length text }) (record { state = narrowed s; size = 0 })
 
 -- The bytes of the output: the text, and past it what they held; where it does not fit nothing is written.
 unfoldable pub fitted : List ℕ → List ℕ → List ℕ

@@ -41,14 +41,14 @@ fn tell_fitting(t: Table, e: usize, m: usize, q: &[u8], out: &mut [u8]) -> Repor
         return run_text::tell(Pass::Write, t, e, m, q, out);
     }
     let measured = run_text::tell(Pass::Measure, t, e, m, q, out);
-    let length = measured.length;
-    if length <= out.len() {
+    let size = measured.size;
+    if size <= out.len() {
         return run_text::tell(Pass::Write, t, e, m, q, out);
     }
     let s = measured.state;
     Reported {
         state: narrowed(s),
-        length: 0,
+        size: 0,
     }
 }
 
@@ -63,7 +63,7 @@ fn refuse(r: Refusal, out: &mut [u8]) -> Reported
     if out.len() <= end {
         return Reported {
             state: state,
-            length: 0,
+            size: 0,
         };
     }
     text::put(out, 0, b"refused ");
@@ -71,7 +71,7 @@ fn refuse(r: Refusal, out: &mut [u8]) -> Reported
     out[end] = 10;
     Reported {
         state: state,
-        length: end + 1,
+        size: end + 1,
     }
 }
 

@@ -19,7 +19,7 @@ ghost use Rattle.run_text.specs.Runs.{run-text};
 // What is answered of a run that is told: its state, and the length of the text that was measured or written.
 pub struct Reported {
     pub state: Running,
-    pub length: usize,
+    pub size: usize,
 }
 
 // A text is measured first, and written only where it fits.
@@ -146,7 +146,7 @@ pub fn tell(pass: Pass, t: Table, e: usize, m: usize, q: &[u8], out: &mut [u8]) 
             Answer::Refused(r) => {
                 return Reported {
                     state: stopped(tables::refusal_number(r), k, v),
-                    length: end,
+                    size: end,
                 };
             }
             Answer::Accepted => {
@@ -158,6 +158,6 @@ pub fn tell(pass: Pass, t: Table, e: usize, m: usize, q: &[u8], out: &mut [u8]) 
     }
     Reported {
         state: stopped(0, e, u),
-        length: end,
+        size: end,
     }
 }

@@ -9,5 +9,5 @@ fn main() {
     let mut text = [0u8; 286000];
     let n = io::read_full(STDIN_FILENO, &mut input);
     let r = report::report(&input[..n], &mut text);
-    io::write_all(STDOUT_FILENO, &text[..r.length]);
+    io::write_all(STDOUT_FILENO, &text[..r.size]);
 }

@@ -139,11 +139,11 @@ kept-width l keep w h =
     let b = both-true (ltb 0 keep) (ltb keep (2 ^ l)) h in
     let back = set-word-set l keep (ltb-true keep (2 ^ l) (b .1)) in
     let more = ltb-true 0 keep (b .0) in
-    let some : nonzero k ≡ true = nonzero-word k ∙ rw (back, ne-eqb keep 0 (λ z. omega arith)) in
+    let nonempty : nonzero k ≡ true = nonzero-word k ∙ rw (back, ne-eqb keep 0 (λ z. omega arith)) in
     let most = kept-most k in
     let few = width-most l w in
     let long = set-length l keep in
-    rw (lt-ltb 0 (kept k) (kept-some k (rw some tt)), le-leb (kept k) 16 (omega arith))
+    rw (lt-ltb 0 (kept k) (kept-some k (rw nonempty tt)), le-leb (kept k) 16 (omega arith))
 
 pub projection-outcome : (side : Side) (t : Table) (keep : ℕ) → TableValue t → ProjectionOutcome side t keep
 unfolding projection-call projected

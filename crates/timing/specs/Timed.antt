@@ -27,10 +27,10 @@ abbrev pub grown : ℕ → Grown
 grown r = cond (leb r 256) (Count r) Full
 
 -- A reply as a number: 0 for no, 1 for yes, and 100 more than the number of a refusal.
-abbrev pub reply-number : Reply → ℕ
-reply-number Yes = 1
-reply-number No = 0
-reply-number (Refused r) = refusal-number r + 100
+abbrev pub told-number : Reply → ℕ
+told-number Yes = 1
+told-number No = 0
+told-number (Refused r) = refusal-number r + 100
 
 -- An answer as a number.
 abbrev pub number-of : Bool → ℕ

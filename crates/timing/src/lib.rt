@@ -15,7 +15,7 @@ ghost use Rattle.lists.specs.Lists.{Leaves};
 ghost use Rattle.sharing.specs.Calls.{convert-call};
 ghost use Rattle.sharing.specs.Calls.{side-told, equation-call};
 ghost use Rattle.questions.specs.Replies.{equal-call, independent-call};
-ghost use Rattle.timing.specs.Timed.{numbered, fits-one, fits, grown, reply-number, number-of};
+ghost use Rattle.timing.specs.Timed.{numbered, fits-one, fits, grown, told-number, number-of};
 
 // An answer as a number, with the table that goes with it.
 #[repr(C)]
@@ -87,8 +87,8 @@ pub extern "C" fn timing_grow(
 }
 
 // A reply as a number: 0 for no, 1 for yes, and 100 more than the number of a refusal.
-fn reply_number(a: Reply) -> u32
-    ensures { λ r. ⌜ r ≡ reply-number a ⌝ }
+fn told_number(a: Reply) -> u32
+    ensures { λ r. ⌜ r ≡ told-number a ⌝ }
 {
     match a {
         Reply::Yes => 1,
@@ -100,20 +100,20 @@ fn reply_number(a: Reply) -> u32
 // Are two tables equal in groups?
 #[no_mangle]
 pub extern "C" fn timing_equal(t: Table, u: Table) -> u32
-    ensures { λ r. ⌜ r ≡ reply-number (equal-call t u) ⌝ }
+    ensures { λ r. ⌜ r ≡ told-number (equal-call t u) ⌝ }
 {
     let a = questions::equal(t, u);
-    reply_number(a)
+    told_number(a)
 }
 
 // Are two sets of variables independent? The side is told as for an equation.
 #[no_mangle]
 pub extern "C" fn timing_independent(side: u32, t: Table, a: u32, b: u32) -> u32
-    ensures { λ r. ⌜ r ≡ reply-number (independent-call (side-told side) t a b) ⌝ }
+    ensures { λ r. ⌜ r ≡ told-number (independent-call (side-told side) t a b) ⌝ }
 {
     let s = sharing::side_numbered(side);
     let reply = questions::independent(s, t, a, b);
-    reply_number(reply)
+    told_number(reply)
 }
 
 // An answer as a number.

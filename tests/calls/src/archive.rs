@@ -143,7 +143,7 @@ fn returner(case: &Case, random: &mut Random) -> Result<Outcome, String> {
     outcome(state.code, &nothing, Some(Box::new(state)))
 }
 
-/// A call on a lent state. A step returns the number that it leaves as the state's code.
+/// A call on a lent state.
 fn on_state(case: &Case, random: &mut Random) -> Result<Outcome, String> {
     let mut state = Box::new(Framed::new(*state_of(case)));
     let mut second = Guarded::new(&case.second, random);

@@ -3,13 +3,14 @@
 use crate::case::{Call, Case, Outcome, Part};
 use crate::layout::State;
 use reference::calls;
+use reference::running::Running;
 
 /// What the call should give.
 pub fn expected(case: &Case) -> Outcome {
     match case.call {
         Call::Smaller => smaller(case),
-        Call::Run => of_state(State::of(&calls::run(case.side, &case.first, &case.second))),
-        Call::Start => of_state(State::of(&calls::start(case.side, &case.first))),
+        Call::Run => returned(&calls::run(case.side, &case.first, &case.second)),
+        Call::Start => returned(&calls::start(case.side, &case.first)),
         Call::Step => step(case),
         call if call.asks() => question(case),
         _ => writer(case),
@@ -74,23 +75,27 @@ fn smaller(case: &Case) -> Outcome {
     }
 }
 
-/// One step of a running analysis: a table that was damaged from outside is refused, and only
-/// the last answer changes.
+/// One step of a running analysis: a table that was damaged from outside is refused, and after
+/// any refusal the whole state is as it was.
 fn step(case: &Case) -> Outcome {
-    let mut state = *state_of(case);
-    match state.running() {
+    let given = *state_of(case);
+    match given.running() {
         Ok(mut running) => {
-            calls::step(&mut running, case.word, &case.second);
-            state = State::of(&running);
+            let number = calls::step(&mut running, case.word, &case.second);
+            of_state(number, State::of(&running))
         }
-        Err(refusal) => state.code = refusal.number(),
+        Err(refusal) => of_state(refusal.number(), given),
     }
-    of_state(state)
 }
 
-fn of_state(state: State) -> Outcome {
+/// A state that a call returns; its number is the state's code.
+fn returned(running: &Running) -> Outcome {
+    of_state(running.code, State::of(running))
+}
+
+fn of_state(number: u32, state: State) -> Outcome {
     Outcome {
-        number: state.code,
+        number,
         out: Vec::new(),
         part: Part::None,
         state: Some(Box::new(state)),

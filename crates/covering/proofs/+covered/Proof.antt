@@ -119,7 +119,7 @@ module _ (t : ℕ) where
   returns-3 c τ s h n e =
       c .is-zero .ensures .1 s n e
       ∙ covered-none _ τ s n
-      (c .before .before .nearest .ensures .1 _ τ s h n e .none (omega (arith, h .count, c .before .if3 .taken)))
+      (c .before .before .nearest .ensures .1 _ τ s h n e .no-match (omega (arith, h .count, c .before .if3 .taken)))
 
   mul-t15 : covered-lts.Need-mul-t15 (calls t) (covered-at t) covered.Post Inv-loop μ-loop
   mul-t15 c = search needs

@@ -115,7 +115,7 @@ returns c = (
       let b = c .before .loop .inv .3 l τ s h e is in
       record {
         found = λ k. b .found (omega (arith, h .count));
-        none = λ k i m.
+        no-match = λ k i m.
             untrue _ (b .passed (omega (arith, h .count, c .before .loop .inv .1)) i (omega (arith, h .count)));
       },
 )

@@ -48,7 +48,7 @@ returns c =
           .digits .ensures,
     ) in (
       rw (at-stopped .stopped .ensures, at-zero .zero .ensures, at-refusal-number .refusal-number .ensures)
-          (ap (λ (s : Running). record { state = s; length = 0 }) (narrowed-none (at-start .args .r))
+          (ap (λ (s : Running). record { state = s; size = 0 }) (narrowed-none (at-start .args .r))
           ∙ told-narrow (none-applied (refusal-number (at-start .args .r)) 0) (refused-text
           (refusal-number (at-start .args .r))) (at-start .args .out .now) short),
       fitted-narrow (refused-text (refusal-number (at-start .args .r))) (at-start .args .out .now) short,

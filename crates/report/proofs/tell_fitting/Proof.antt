@@ -66,7 +66,7 @@ tell-requires-3 c κs =
     let at-tell2 = at-if2 .before .before .before in
     let at-start = at-tell2 .before .before .before .before .before in
     let p = at-start .pre in
-    let long = ap (λ (r : Reported). r .length) (at-tell2 .tell2 .ensures .0) in
+    let long = ap (λ (r : Reported). r .size) (at-tell2 .tell2 .ensures .0) in
     (p .0, p .1, p .2, p .3, p .4, λ w. omega (arith, at-if2 .if2 .taken, long))
 
 same-length-2 : tie.Need-same-length-2
@@ -78,7 +78,7 @@ returns-2 c =
     let at-if2 = at-tell3 .before .before in
     let at-tell2 = at-if2 .before .before .before in
     let at-start = at-tell2 .before .before .before .before .before in
-    let long = ap (λ (r : Reported). r .length) (at-tell2 .tell2 .ensures .0) in
+    let long = ap (λ (r : Reported). r .size) (at-tell2 .tell2 .ensures .0) in
     let both = both-fit (run-from 0 (at-start .args .t) 0 (equations-of (at-start .args .e) (at-start .args .m)
     (at-start .args .q .now))) (run-text (at-start .args .t) (equations-of (at-start .args .e) (at-start .args .m)
     (at-start .args .q .now))) (at-start .args .out .now) (at-tell2 .tell2 .ensures .1) (omega
@@ -102,7 +102,7 @@ returns-3 c =
     let at-if2 = c .before .before in
     let at-tell2 = at-if2 .before .before .before in
     let at-start = at-tell2 .before .before .before .before .before in
-    let long = ap (λ (r : Reported). r .length) (at-tell2 .tell2 .ensures .0) in
+    let long = ap (λ (r : Reported). r .size) (at-tell2 .tell2 .ensures .0) in
     let state = ap (λ (r : Reported). r .state) (at-tell2 .tell2 .ensures .0) in
     let both = both-narrow (run-from 0 (at-start .args .t) 0 (equations-of (at-start .args .e) (at-start .args .m)
     (at-start .args .q .now))) (run-text (at-start .args .t) (equations-of (at-start .args .e) (at-start .args .m)

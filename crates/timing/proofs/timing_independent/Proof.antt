@@ -8,11 +8,11 @@ side-numbered-requires c κs = search needs
 independent-requires : tie.Need-independent-requires
 independent-requires c κs = search needs
 
-reply-number-requires : tie.Need-reply-number-requires
-reply-number-requires c κs = search needs
+told-number-requires : tie.Need-told-number-requires
+told-number-requires c κs = search needs
 
 returns : tie.Need-returns
-returns c = rw (c .reply-number .ensures, c .before .independent .ensures, c .before .before .side-numbered .ensures)
+returns c = rw (c .told-number .ensures, c .before .independent .ensures, c .before .before .side-numbered .ensures)
 
 pub timing-independent-spec : {M : Type 1} → statement M
-timing-independent-spec = tie.close (tie.spec side-numbered-requires independent-requires reply-number-requires returns)
+timing-independent-spec = tie.close (tie.spec side-numbered-requires independent-requires told-number-requires returns)

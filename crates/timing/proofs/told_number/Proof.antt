@@ -1,8 +1,8 @@
 use native.Mathlib.Omega.{arith}
 use borrow.Author.Needs.{needs}
 use Rattle.timing.proofs.Ranges.{number-few}
-use Rattle.timing.proofs.reply_number.Statement.{statement}
-use Rattle.timing.proofs.reply_number.Tie as tie
+use Rattle.timing.proofs.told_number.Statement.{statement}
+use Rattle.timing.proofs.told_number.Tie as tie
 
 enum-told : tie.Need-enum-told
 enum-told c = search needs
@@ -28,7 +28,7 @@ returns-2 c = search needs
 returns-3 : tie.Need-returns-3
 returns-3 c = rw (c .refusal-number .ensures, c .before .before .a .given .1)
 
-pub reply-number-spec : {M : Type 1} → statement M
-reply-number-spec =
+pub told-number-spec : {M : Type 1} → statement M
+told-number-spec =
     tie.close
     (tie.spec enum-told enum-told-2 enum-known-a refusal-number-requires add-result returns returns-2 returns-3)
