@@ -11,25 +11,16 @@ use Rattle.tables.specs.declared.Refusal.{Refusal}
 use Rattle.tables.specs.declared.Answer.{Answer}
 use Rattle.tables.specs.declared.Answer.the-variants.{Accepted, Refused}
 use Rattle.tables.specs.declared.Answered.{Answered}
-use Rattle.tables.specs.Values.{zero-table, accepts, refuses, check-table, GoodTable}
+use Rattle.tables.specs.Values.{zero-table, refuses, check-table, GoodTable}
 use Rattle.tables.proofs.Checking.{good-passes}
 use Rattle.sharing.specs.Calls.{after-check, equation-call, join-call, projection-call, change-side-call}
 use Rattle.questions.specs.declared.Reply.{Reply}
 use Rattle.questions.specs.declared.Reply.the-variants as Q
 use Rattle.questions.specs.Replies.{equal-call, ground-call, independent-call}
-use Rattle.forms.specs.declared.Extent.the-variants.{Whole}
-use Rattle.forms.specs.Tables.{read-table}
 use Rattle.byte_calls.specs.Calls.{check-bytes, tokens-of, term-call, after-read, ask-read, change-side-bytes, equation-bytes}
 use Rattle.byte_calls.specs.Calls.{join-bytes, projection-bytes, equal-bytes, ground-bytes, independent-bytes}
+use Rattle.analyser.specs.Demand2.{Reads, Unread}
 use Rattle.byte_calls.proofs.Going.{read-went, read-refused, ask-went, ask-refused, term-refused}
-
--- The bytes read as the table.
-abbrev pub Reads : List ℕ → Table → Type 0
-Reads b t = read-table Whole b ≡ accepts t
-
--- The bytes do not read, by that refusal.
-abbrev pub Unread : List ℕ → Refusal → Type 0
-Unread b r = read-table Whole b ≡ refuses r zero-table
 
 -- ---- Any call, any question
 

@@ -8,13 +8,15 @@ use native.Mathlib.Omega.{arith}
 use lib.ListN.{length, drop}
 use Rattle.model.specs.Growth.{Entries}
 use Rattle.model.specs.Terms.{Term}
+use Rattle.model.specs.Tables.{Side}
 use Rattle.tables.specs.declared.Table.{Table}
 use Rattle.tables.specs.declared.Refusal.{Refusal}
+use Rattle.tables.specs.declared.Refusal.the-variants as R
 use Rattle.tables.specs.declared.Answer.{Answer}
 use Rattle.tables.specs.declared.Answer.the-variants.{Accepted, Refused}
 use Rattle.tables.specs.declared.Answered.{Answered}
 use Rattle.tables.specs.Refusals.{refusal-number, answer-number}
-use Rattle.tables.specs.Values.{made-or-full, GoodTable}
+use Rattle.tables.specs.Values.{refuses, made-or-full, GoodTable}
 use Rattle.terms.specs.Checks as C
 use Rattle.sharing.specs.Calls.{side-told, equation-call}
 use Rattle.codec.specs.Numbers.{numbers}
@@ -28,7 +30,7 @@ use Rattle.running.specs.States.{state, none-applied, go-on, run-from, run-stat
 use Rattle.running.proofs.Steps.{run-unread, run-unchecked, run-goes}
 use Rattle.analyser.specs.Runs.{Ends, through, full}
 use Rattle.analyser.proofs.Equations.{called, accepted-exact}
-use Rattle.analyser.proofs.ByBytes.{Reads, Unread}
+use Rattle.analyser.specs.Demand2.{Reads, Unread}
 
 -- ---- Before the first equation
 
@@ -77,12 +79,31 @@ first-reads l w ws e = go (C.check-equation l (w .left) (w .tokens)) refl e
     go (C.reads u) h f = ((u, h), f)
     go (C.refuses r) h f = absurd (let z : _≡_ {A = ℕ} 0 1 = cc in omega arith)
 
--- where the growth rule decides, a refusal is 8
-full-number : (l : ℕ) (t : Table) (o : Option Entries) {r : Refusal} → made-or-full l t o .answer ≡ Refused r
-    → refusal-number r ≡ 8
+-- where the growth rule decides, a refusal is full, with the table as given
+only-full : (l : ℕ) (t : Table) (o : Option Entries) {r : Refusal} → made-or-full l t o .answer ≡ Refused r
+    → made-or-full l t o ≡ refuses R.Full t
 unfolding made-or-full
-full-number l t (some ρ) e = absurd (let z : _≡_ {A = ℕ} 0 1 = cc in omega arith)
-full-number l t none e = ap answer-number (sym e)
+only-full l t (some ρ) e = absurd (let z : _≡_ {A = ℕ} 0 1 = cc in omega arith)
+only-full l t none e = refl
+
+module _ (side : Side) (t : Table) (w : Written) (ws : List Written) (good : GoodTable t)
+    (passed : check-each (t .l) (w ∷ ws) ≡ Accepted) where
+  -- the answer to the first
+  abbrev first : Answered
+  first = equation-call side t (w .left) (w .tokens)
+
+  -- Where the first of checked equations is accepted its table is good, and the rest pass their checks on it.
+  pub first-accepted : first .answer ≡ Accepted → GoodTable (first .table) × (check-each (first .table .l) ws ≡ Accepted)
+  first-accepted h =
+      let m = accepted-exact side t (w .left) (w .tokens) good h in
+      (m .is-good, rw (m .width) (first-reads (t .l) w ws passed .1))
+
+  -- Where it is refused it is full, with the table as given.
+  pub first-refused : {r : Refusal} → first .answer ≡ Refused r → first ≡ refuses R.Full t
+  first-refused h =
+      let reads = first-reads (t .l) w ws passed .0 in
+      let is = called side t (w .left) (w .tokens) good (reads .0) (reads .1) in
+      is ∙ only-full (t .l) t _ (ap (λ (y : Answered). y .answer) (sym is) ∙ h)
 
 from-ends : (side : ℕ) (ws : List Written) (t : Table) (k : ℕ) → GoodTable t → check-each (t .l) ws ≡ Accepted
     → Ends (run-from side t k ws) (k + length ws)
@@ -93,22 +114,17 @@ from-ends side (w ∷ ws) t k good e = go (next .answer) refl (λ u. from-ends s
     next : Answered
     next = equation-call (side-told side) t (w .left) (w .tokens)
 
-    first : ((u : Term) × (C.check-equation (t .l) (w .left) (w .tokens) ≡ C.reads u)) × (check-each (t .l) ws ≡ Accepted)
-    first = first-reads (t .l) w ws e
-
     go : (y : Answer) → next .answer ≡ y
         → ((u : Table) → GoodTable u → check-each (u .l) ws ≡ Accepted → Ends (run-from side u (k + 1) ws) ((k + 1) + length ws))
         → Ends (go-on y (state (answer-number (next .answer)) side k (next .table)) (run-from side (next .table) (k + 1) ws))
         (k + suc (length ws))
     go Accepted h later =
-        let m = accepted-exact (side-told side) t (w .left) (w .tokens) good h in
-        let rest = later (next .table) (m .is-good) (rw (m .width) (first .1)) in
+        let on = first-accepted (side-told side) t w ws good e h in
         let same : (k + 1) + length ws ≡ k + suc (length ws) = omega arith in
-        subst (Ends (run-from side (next .table) (k + 1) ws)) same rest
+        subst (Ends (run-from side (next .table) (k + 1) ws)) same (later (next .table) (on .0) (on .1))
     go (Refused r) h later =
-        let is = called (side-told side) t (w .left) (w .tokens) good (first .0 .0) (first .0 .1) in
-        let eight = full-number (t .l) t _ (ap (λ (y : Answered). y .answer) (sym is) ∙ h) in
-        full (ap answer-number h ∙ eight) (omega arith)
+        let is = first-refused (side-told side) t w ws good e h in
+        full (ap (λ (y : Answered). answer-number (y .answer)) is) (omega arith)
 
 -- A run whose input passes its checks ends accepted with all its equations applied, or full with fewer.
 pub run-ends : (side : ℕ) (b q : List ℕ) (t : Table) → Reads b t → check-equations (t .l) q ≡ Accepted

@@ -34,8 +34,8 @@ use Rattle.analyser.specs.Demand3.{term-read, equation-given, event-of}
 
 -- ---- What was read
 
--- a term that the checks read is the one whole term of the tokens
-read-whole : (l x : ℕ) (ts : List ℕ) (u : Term) → C.check-equation l x ts ≡ C.reads u → whole-term l ts ≡ some u
+-- A term that the checks read is the one whole term of the tokens.
+pub read-whole : (l x : ℕ) (ts : List ℕ) (u : Term) → C.check-equation l x ts ≡ C.reads u → whole-term l ts ≡ some u
 unfolding C.check-equation C.check-term C.term-or-6
 read-whole l x ts u e = go (leb (length ts) C.most-tokens) (named l x) (C.all-named l ts) (whole-term l ts) e
   where

@@ -2,7 +2,7 @@
 -- definition, entry for entry, so that the next call gets just that table. Assumes nothing.
 use mathlib.Core.Path.{_≡_, refl, sym, ap, subst, _∙_}
 use mathlib.Core.Bool.{Bool, true, false, cond}
-use mathlib.Core.List.{List, [], _∷_, _++_, map}
+use mathlib.Core.List.{List, _++_, map}
 use mathlib.Core.Option.{Option, some, none}
 use Prim.Native.Nat.{ℕ, _<_}
 use native.Mathlib.Omega.{arith}
@@ -10,13 +10,11 @@ use borrow.Author.Tests.{ltb-true, eqb-true}
 use lib.Dec.{ltb, leb, eqb}
 use lib.ListN.{length, take, drop}
 use lib.Seq.{take-at}
-use Rattle.model.specs.Groups.{Bits}
 use Rattle.model.specs.Growth.{Entries, convert, Reduced}
 use Rattle.model.specs.Tables.{Side, Good, kept, change-side, join, projection}
-use Rattle.model.proofs.Given.{Each}
 use Rattle.model.proofs.Demand2 as D
 use Rattle.words.specs.Words.{set}
-use Rattle.words.proofs.Codec.{set-length}
+use Rattle.words.proofs.Codec.{set-length, sets-long}
 use Rattle.tables.specs.declared.Table.{Table}
 use Rattle.tables.specs.declared.Refusal.{Refusal}
 use Rattle.tables.specs.declared.Answer.{Answer}
@@ -38,7 +36,8 @@ use Rattle.byte_calls.specs.Calls.{tokens-of, term-call, after-read, change-sid
 use Rattle.byte_calls.specs.Calls.{projection-bytes}
 use Rattle.outputs.specs.Outputs.{put-checked, put-answer, put-bytes}
 use Rattle.analyser.proofs.Equations.{accepted-exact}
-use Rattle.analyser.proofs.ByBytes.{Reads, term-accepted}
+use Rattle.analyser.specs.Demand2.{Reads}
+use Rattle.analyser.proofs.ByBytes.{term-accepted}
 
 -- ---- Any answer
 
@@ -122,7 +121,8 @@ width-some l w = ltb-true 0 l (both-true (ltb 0 l) (leb l 16) w .0)
 -- ---- Read
 
 module _ (b : List ℕ) where
-  read-made : MakesGood (read-table Whole b)
+  -- A table that was read is good and reduced.
+  pub read-made : MakesGood (read-table Whole b)
   read-made e = read-good Whole b (read-table Whole b .table) (λ i. record { answer = e i; table = read-table Whole b .table })
 
   -- What an accepted read has written reads as its table.
@@ -132,13 +132,9 @@ module _ (b : List ℕ) where
 
 -- ---- Convert
 
-sets-long : (l : ℕ) (ws : List ℕ) → Each (λ (g : Bits). length g ≡ l) (map (set l) ws)
-unfolding Each
-sets-long l [] = tt
-sets-long l (w ∷ ws) = (set-length l w, sets-long l ws)
-
 module _ (l : ℕ) (ws : List ℕ) where
-  convert-made : MakesGood (convert-call l ws)
+  -- So is the table of an accepted conversion,
+  pub convert-made : MakesGood (convert-call l ws)
   unfolding convert-call
   convert-made =
       test-good (good-width l) _ _
@@ -155,7 +151,8 @@ module _ (l : ℕ) (ws : List ℕ) where
 -- ---- Change of side
 
 module _ (side : Side) (b : List ℕ) where
-  change-side-made : MakesGood (change-side-bytes side b)
+  -- of an accepted change of side,
+  pub change-side-made : MakesGood (change-side-bytes side b)
   unfolding change-side-bytes change-side-call
   change-side-made = read-makes b (change-side-call side) (λ t e.
       let good = read-good Whole b t e .0 in
@@ -181,7 +178,8 @@ term-made side t x term good e =
     subst (λ (y : Answered). GoodTable (y .table) × Reduced (entries-of (y .table))) (sym same) (m .is-good, m .reduced)
 
 module _ (side : Side) (b : List ℕ) (x : ℕ) (term : List ℕ) where
-  equation-made : MakesGood (equation-bytes side b x term)
+  -- of an accepted equation,
+  pub equation-made : MakesGood (equation-bytes side b x term)
   unfolding equation-bytes
   equation-made = read-makes b (λ t. term-call side t x term) (λ t e. term-made side t x term (read-good Whole b t e .0))
 
@@ -193,7 +191,8 @@ module _ (side : Side) (b : List ℕ) (x : ℕ) (term : List ℕ) where
 -- ---- Join
 
 module _ (side : Side) (b c : List ℕ) where
-  join-made : MakesGood (join-bytes side b c)
+  -- of an accepted join,
+  pub join-made : MakesGood (join-bytes side b c)
   unfolding join-bytes join-call
   join-made =
       read-makes b (λ t. after-read c (join-call side t)) (λ t e. read-makes c (join-call side t) (λ u f.
@@ -218,7 +217,8 @@ module _ (side : Side) (b c : List ℕ) where
 -- ---- Projection
 
 module _ (side : Side) (b : List ℕ) (keep : ℕ) where
-  projection-made : MakesGood (projection-bytes side b keep)
+  -- and of an accepted projection.
+  pub projection-made : MakesGood (projection-bytes side b keep)
   unfolding projection-bytes projection-call projected
   projection-made = read-makes b (λ t. projection-call side t keep) (λ t e.
       let good = read-good Whole b t e .0 in

@@ -1,20 +1,23 @@
 -- How a call goes on after its parts: one law for each way. Assumes nothing.
 use mathlib.Core.Path.{_≡_, refl, sym, ap, _∙_}
 use mathlib.Core.Bool.{Bool, true, false}
-use mathlib.Core.List.{List}
-use Prim.Native.Nat.{ℕ, _/_, _≤_}
+use mathlib.Core.List.{List, [], _∷_}
+use Prim.Native.Nat.{ℕ, _/_, _%_, _≤_}
 use native.Mathlib.Omega.{arith}
 use borrow.Author.Tests.{leb-true}
-use lib.Dec.{leb}
+use lib.Dec.{leb, eqb}
 use lib.ListN.{length, take}
 use lib.Seq.{take-at}
 use Rattle.model.specs.Tables.{Side}
 use Rattle.tables.specs.declared.Table.{Table}
 use Rattle.tables.specs.declared.Refusal.{Refusal}
+use Rattle.tables.specs.declared.Refusal.the-variants as R
 use Rattle.tables.specs.declared.Answer.{Answer}
 use Rattle.tables.specs.declared.Answer.the-variants.{Accepted, Refused}
 use Rattle.tables.specs.declared.Answered.{Answered}
+use Rattle.tables.specs.Refusals.{member, one-of, Numbered}
 use Rattle.tables.specs.Values.{zero-table, refuses, check-table}
+use Rattle.tables.proofs.Numbers.{refused-numbered, accepted-numbered, test-numbered}
 use Rattle.terms.specs.Checks.{most-tokens}
 use Rattle.sharing.specs.Calls.{after-check, equation-call}
 use Rattle.questions.specs.declared.Reply.{Reply}
@@ -59,6 +62,15 @@ bytes-few b e = go (leb (length b / 2) most-tokens) refl
     go : (p : Bool) → leb (length b / 2) most-tokens ≡ p → length b / 2 ≤ 1024
     go true h = leb-true (length b / 2) 1024 h
     go false h = absurd (let z : _≡_ {A = ℕ} 0 1 = cc in omega arith)
+
+-- The bytes of a term are refused by 7 or 1.
+pub term-bytes-numbers : (b : List ℕ) → Numbered (7 ∷ 1 ∷ []) (check-bytes b)
+unfolding check-bytes one-of member
+term-bytes-numbers b =
+    let ns : List ℕ = 7 ∷ 1 ∷ [] in
+    test-numbered ns (leb (length b / 2) most-tokens) _ _
+    (test-numbered ns (eqb (length b % 2) 0) _ _ (accepted-numbered ns) (refused-numbered ns R.Torn tt))
+    (refused-numbered ns R.Long tt)
 
 module _ (side : Side) (t : Table) (x : ℕ) (b : List ℕ) where
   pub term-stray : {r : Refusal} → check-table t ≡ Refused r → refuses r t ≡ term-call side t x b

@@ -4,4 +4,5 @@ pub mod Walking
 pub mod Tests
 pub mod Reading
 pub mod Cutting
+pub mod Numbers
 pub mod Back

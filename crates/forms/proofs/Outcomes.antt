@@ -55,10 +55,10 @@ module _ (x : Extent) (b : List ℕ) (l n : ℕ) (el : l ≡ first-size b) (en :
       unfolding read-sized
       read-all f = rw (as-sized, w, le-leb n limit few, f)
 
-pub fits-room : (x : Extent) (length room : ℕ) → fits x length room ≡ true → length ≤ room
+pub fits-room : (x : Extent) (size room : ℕ) → fits x size room ≡ true → size ≤ room
 unfolding fits
-fits-room Whole length room f = let e = eqb-true length room f in omega (arith, e)
-fits-room Front length room f = leb-true length room f
+fits-room Whole size room f = let e = eqb-true size room f in omega (arith, e)
+fits-room Front size room f = leb-true size room f
 
 -- ---- Writing a table
 

@@ -6,8 +6,8 @@ use Rattle.model.specs.Growth.{_>>=_, fold, covered, subsumed, remove, a
 use Rattle.model.specs.Growth.{widen}
 use Rattle.model.specs.Growth.{widen-grow, convert-one, convert}
 use Rattle.model.specs.Tables.{meet-if, meets-with, meets-of, ors, unmatched, pieces-of, relevant, irrelevant, cross}
-use Rattle.model.specs.Tables.{close-with, close, take-away, change-side, positive-equation, equation-of-sets}
-use Rattle.model.specs.Tables.{positive-projection, projection}
+use Rattle.model.specs.Tables.{close-with, close, take-away, change-side, positive-equation, negative-equation}
+use Rattle.model.specs.Tables.{equation-of-sets, positive-projection, projection}
 use Rattle.model.specs.Terms.{occurs, occurs-row, set-of, variables}
 use Rattle.model.specs.Equations.{equation}
 
@@ -28,5 +28,5 @@ unfolding relevant irrelevant cross close-with close take-away change-side posit
 tables = tt
 
 unfoldable pub procedures : Unit {0}
-unfolding candidates growth tables equation-of-sets occurs occurs-row set-of variables equation
+unfolding candidates growth tables negative-equation equation-of-sets occurs occurs-row set-of variables equation
 procedures = tt

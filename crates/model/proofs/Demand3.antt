@@ -16,7 +16,8 @@ use Rattle.model.specs.Calls.{equation-call}
 use Rattle.model.proofs.Sharing.{sharing}
 use Rattle.model.proofs.Demand2.{equation-exact, equation-good}
 
-describes-more : (S S′ : Groups) (θ : Bindings) → ((g : Bits) → S g → S′ g) → Describes S θ → Describes S′ θ
+-- A set of groups describes bindings where a smaller one does.
+pub describes-more : (S S′ : Groups) (θ : Bindings) → ((g : Bits) → S g → S′ g) → Describes S θ → Describes S′ θ
 describes-more S S′ θ f d v = ⊎-map (λ z. z) (f (string-of θ v)) (d v)
 
 module _ {Table Call : Type 0} (groups : Table → Groups) (Good : Table → Type 0) (call : Table → Call → Answer Table)

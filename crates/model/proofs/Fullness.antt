@@ -1,19 +1,20 @@
 -- A procedure gives nothing exactly where some list of the growth rule in it needs entry 257. Assumes nothing.
 use mathlib.Core.Path.{_≡_, refl, ap}
+use mathlib.Core.Bool.{Bool, true, false, cond}
 use mathlib.Core.List.{List, [], _∷_, _++_, map}
 use mathlib.Core.Logic.{inl, inr, ⊎-elim, _↔_}
 use mathlib.Core.Option.{Option, some, none}
 use Prim.Native.Nat.{ℕ}
 use native.Mathlib.Omega.{arith}
-use Rattle.model.specs.Groups.{Bits, or, cut}
-use Rattle.model.specs.Strings.{Trits, zeros, ones, stars}
-use Rattle.model.specs.Growth.{_>>=_, fold, Entries, grow, widen, widen-grow, Overflows}
+use lib.Dec.{T}
+use Rattle.model.specs.Groups.{Bits, nonzero, or, cut}
+use Rattle.model.specs.Strings.{Trits, exactly, zeros, ones, stars}
+use Rattle.model.specs.Growth.{_>>=_, fold, Entries, grow, widen, widen-grow, convert-one, convert, Overflows}
 use Rattle.model.specs.Tables.{Side, positive, negative, meets-of, ors, unmatched, pieces-of, relevant, irrelevant, cross}
 use Rattle.model.specs.Tables.{close-with, close, take-away, change-side, positive-equation, negative-equation}
 use Rattle.model.specs.Tables.{equation-of-sets, join, kept, positive-projection, projection}
-use Rattle.model.specs.Full.{Full, Meets, OrLater, CloseFull, ChangeFull, PositiveFull, NegativeFull, EquationFull}
-use Rattle.model.specs.Full.{JoinFull}
-use Rattle.model.specs.Full.{ProjectionFull}
+use Rattle.model.specs.Full.{Full, Meets, OrLater, CloseFull, ConvertFull, ChangeFull, PositiveFull, NegativeFull}
+use Rattle.model.specs.Full.{EquationFull, JoinFull, ProjectionFull}
 use Rattle.model.proofs.Given.{fold-append}
 use Rattle.model.proofs.Overflow.{grow-none, full-none, full-exact}
 
@@ -77,6 +78,21 @@ grow-full τ y = (grow-none τ y, full-none τ y)
 widen-grow-full : (τ : Entries) (y : Trits) → (widen-grow τ y ≡ none) ↔ Full τ (widen τ y)
 unfolding widen-grow
 widen-grow-full τ y = grow-full τ (widen τ y)
+
+convert-one-full : (τ : Entries) (g : Bits) → (convert-one τ g ≡ none) ↔ (T (nonzero g) × Full τ (widen τ (exactly g)))
+unfolding convert-one
+convert-one-full τ g = go (nonzero g)
+  where
+    go : (b : Bool) → (cond b (widen-grow τ (exactly g)) (some τ) ≡ none) ↔ (T b × Full τ (widen τ (exactly g)))
+    go true =
+        let w = widen-grow-full τ (exactly g) in
+        (λ e. (tt, w .0 e), λ h. w .1 (h .1))
+    go false = (λ e. none-some e, λ h. absurd (h .0))
+
+-- Convert gives nothing exactly where some nonzero string of the row, once it is widened, needs entry 257.
+pub convert-full : (gs : List Bits) → (convert gs ≡ none) ↔ ConvertFull gs
+unfolding convert
+convert-full gs = fold-full convert-one convert-one-full [] gs
 
 close-with-full : (R : Entries) (c : Trits) → (close-with R c ≡ none) ↔ Overflows R (ors R (c ∷ []) ++ (c ∷ []))
 unfolding close-with

@@ -20,7 +20,9 @@ pub mod Demand2
 pub mod Occurrence
 pub mod Sharing
 pub mod Demand3
+pub mod Describing
 pub mod Computing
+pub mod Unbound
 pub mod Example
 pub mod Questions
 pub mod Reader

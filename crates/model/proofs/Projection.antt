@@ -48,7 +48,8 @@ covers-cut (false ∷ k) (t ∷ s) h c =
     let r = covers-cut k s h c in
     (b .0 ∷ r .0, and-both (covers-digit t (b .0)) (covers s (r .0)) (b .1) (r .1), r .2)
 
-cut-nonzero : (k g : Bits) → T (nonzero (cut k g)) → T (nonzero g)
+-- A string with a 1 at a chosen position has a 1.
+pub cut-nonzero : (k g : Bits) → T (nonzero (cut k g)) → T (nonzero g)
 unfolding nonzero cut
 cut-nonzero [] g h = absurd h
 cut-nonzero (a ∷ k) [] h = h

@@ -1,5 +1,5 @@
 -- The tests of the three questions hold exactly when the statements over groups do. Assumes nothing.
-use mathlib.Core.Path.{_≡_, refl, sym, ap}
+use mathlib.Core.Path.{_≡_, refl, sym, ap, subst}
 use mathlib.Core.Bool.{Bool, true, false, not, _&&_, _||_, Bool·beq}
 use mathlib.Core.List.{[], _∷_}
 use mathlib.Core.Logic.{_↔_, ⊎-elim, Iff·trans}
@@ -52,6 +52,10 @@ pub groups-test : (side : Side) (l : ℕ) (τ : Entries) (g : Bits) → groups s
 unfolding stands-for groups
 groups-test positive l τ g = (λ h. h, λ h. h)
 groups-test negative l τ g = (λ h. (h .0, not-T (covered τ g) (h .1)), λ h. (h .0, T-not (covered τ g) (h .1)))
+
+-- The all-zero string is never a group, covered or not.
+pub zero-no-group : (side : Side) (l : ℕ) (τ : Entries) (g : Bits) → nonzero g ≡ false → ¬ (groups side l τ g)
+zero-no-group side l τ g z h = subst (λ (b : Bool). T b) z (groups-test side l τ g .0 h .0 .1)
 
 same-there : (a b : Bool) → T (Bool·beq a b) → T a ↔ T b
 same-there true true h = (λ t. t, λ t. t)

@@ -28,8 +28,8 @@ map-map : (p : Term → Bool) (f : Term → Term) (θ : Bindings) → map p (map
 map-map p f [] = refl
 map-map p f (u ∷ θ) = ap (λ (g : Bits). p (f u) ∷ g) (map-map p f θ)
 
--- the string of v has x exactly when v occurs in the term of x
-has-bound : (v : ℕ) (θ : Bindings) (x : ℕ) → has (string-of θ v) x ≡ occurs v (bound θ x)
+-- The string of v has x exactly when v occurs in the term of x.
+pub has-bound : (v : ℕ) (θ : Bindings) (x : ℕ) → has (string-of θ v) x ≡ occurs v (bound θ x)
 unfolding has string-of bound occurs occurs-row
 has-bound v θ zero = refl
 has-bound v [] (suc i) = refl
@@ -72,6 +72,10 @@ absorb-right true b₂ c d = refl
 absorb-right false b₂ true d = sym (or-true b₂)
 absorb-right false b₂ false d = refl
 
+-- The string of a run-time variable that occurs in the term of y is one of the groups that describe the bindings.
+pub described-group : (S : Groups) (θ : Bindings) → Describes S θ → (v y : ℕ) → T (has (string-of θ v) y) → S (string-of θ v)
+described-group S θ d v y h = ⊎-elim (λ z. absurd (rw z at (has-nonzero (string-of θ v) y h))) (λ s. s) (d v)
+
 module _ (S : Groups) (θ : Bindings) (x : ℕ) (t : Term) (σ : Substitution) (describes : Describes S θ)
     (unifier : Admitted σ (bound θ x) (as-bound θ t)) where
   abbrev left : Term
@@ -81,10 +85,6 @@ module _ (S : Groups) (θ : Bindings) (x : ℕ) (t : Term) (σ : Substitution) (
   right = as-bound θ t
 
   -- ---- Variables of the two sides before σ
-
-  -- a string with a variable is a group
-  group : (v y : ℕ) → T (has (string-of θ v) y) → S (string-of θ v)
-  group v y h = ⊎-elim (λ z. absurd (rw z at (has-nonzero (string-of θ v) y h))) (λ s. s) (describes v)
 
   on-left : (v : ℕ) → T (occurs v left) → WithVariable x (string-of θ v)
   on-left v h = rw has-bound h
@@ -107,8 +107,8 @@ module _ (S : Groups) (θ : Bindings) (x : ℕ) (t : Term) (σ : Substitution) (
       record {
         a = string-of θ v₁;
         b = string-of θ v₂;
-        in-a = (group v₁ x (on-left v₁ h₁), on-left v₁ h₁);
-        in-b = (group v₂ (m .0) (m .2), m);
+        in-a = (described-group S θ describes v₁ x (on-left v₁ h₁), on-left v₁ h₁);
+        in-b = (described-group S θ describes v₂ (m .0) (m .2), m);
         is = sym (or-map (occurs v₁) (occurs v₂) θ);
       }
 

@@ -7,9 +7,10 @@ use Prim.Native.Nat.{ℕ, _≤_}
 use lib.Dec.{T}
 use mathlib.Core.Bool.{_||_}
 use lib.ListN.{length}
-use Rattle.model.specs.Groups.{Bits, or, cut}
-use Rattle.model.specs.Strings.{Trits, all-zero, zeros, ones, stars}
-use Rattle.model.specs.Growth.{fold, Entries, limit, subsumed, remove, grow, grow-all, widen, widen-grow, Overflows}
+use Rattle.model.specs.Groups.{Bits, nonzero, or, cut}
+use Rattle.model.specs.Strings.{Trits, all-zero, exactly, zeros, ones, stars}
+use Rattle.model.specs.Growth.{fold, Entries, limit, subsumed, remove, grow, grow-all, widen, widen-grow, convert-one}
+use Rattle.model.specs.Growth.{Overflows}
 use Rattle.model.specs.Tables.{Side, positive, negative, meets-of, ors, unmatched, pieces-of, relevant, irrelevant, cross}
 use Rattle.model.specs.Tables.{close-with, close, take-away, change-side, kept, positive-projection}
 
@@ -35,6 +36,10 @@ OrLater F o G = F ⊎ ((a : _) × (o ≡ some a) × G a)
 -- Close: for some c, the list R grown by "r or c" for each r, then by c.
 abbrev pub CloseFull : Entries → Type 0
 CloseFull = Meets (λ R c. Overflows R (ors R (c ∷ []) ++ (c ∷ []))) close-with []
+
+-- Convert: some nonzero string of the row, once it is widened.
+abbrev pub ConvertFull : List Bits → Type 0
+ConvertFull = Meets (λ R g. T (nonzero g) × Full R (widen R (exactly g))) convert-one []
 
 -- Change of side: for some entry v, one of the strings formed, once it is widened.
 abbrev pub ChangeFull : ℕ → Entries → Type 0

@@ -8,5 +8,6 @@ pub mod Terms
 pub mod Tokens
 pub mod Equations
 pub mod Bindings
+pub mod Goals
 pub mod Calls
 pub mod Marked

@@ -1,7 +1,7 @@
 -- Each question is answered yes exactly where its statement over groups holds. Assumes nothing.
 use mathlib.Core.Path.{_≡_, refl, sym, _∙_, subst}
 use mathlib.Core.Bool.{Bool, true, false, cond}
-use mathlib.Core.Logic.{_⊎_, inl, inr, _↔_}
+use mathlib.Core.Logic.{inl, inr, _↔_}
 use Prim.Native.Nat.{ℕ}
 use borrow.Author.Tests.{eqb-true, eqb-false}
 use lib.Dec.{T, eqb}
@@ -19,11 +19,12 @@ use Rattle.tables.specs.declared.Answer.the-variants as A
 use Rattle.tables.specs.Values.{entries-of, check-table, GoodTable}
 use Rattle.tables.proofs.Checking.{passes-good}
 use Rattle.equality.proofs.Inclusion.{equal-within}
-use Rattle.sharing.specs.Outcomes.{TableValue, groups-of}
+use Rattle.sharing.specs.Outcomes.{TableValue, groups-of, JoinEarly, JoinReady}
 use Rattle.questions.specs.declared.Reply.{Reply}
 use Rattle.questions.specs.declared.Reply.the-variants.{Refused}
 use Rattle.questions.specs.Replies.{replies, after-check, good-sets, equal-call, ground-call, independent-call}
-use Rattle.questions.specs.Statements.{Replied, early, yes, no, EqualReplied, GroundReplied, IndependentReplied}
+use Rattle.questions.specs.Statements.{Replied, early, yes, no, EqualReplied, GroundEarly, GroundReady, GroundReplied}
+use Rattle.questions.specs.Statements.{IndependentEarly, IndependentReady, IndependentReplied}
 
 -- the test decides the statement
 module _ {Early : Refusal → Type 0} {Ready Statement : Type 0} where
@@ -53,11 +54,7 @@ equal-replied side t u vt vu =
     checked-first u vu _ (λ r e. inr (inl (good-t, e))) (λ good-u. go good-t good-u (eqb (t .l) (u .l)) refl))
   where
     go : GoodTable t → GoodTable u → (b : Bool) → eqb (t .l) (u .l) ≡ b
-        → Replied
-        (λ r. (check-table t ≡ A.Refused r) ⊎ (GoodTable t × (check-table u ≡ A.Refused r))
-        ⊎ (GoodTable t × GoodTable u × ¬ (t .l ≡ u .l) × (r ≡ R.Unlike)))
-        (GoodTable t × GoodTable u × (t .l ≡ u .l))
-        (Equal (groups-of side t) (groups-of side u))
+        → Replied (JoinEarly t u) (JoinReady t u) (Equal (groups-of side t) (groups-of side u))
         (cond b (replies (equal positive (t .l) (entries-of t) (entries-of u))) (Refused R.Unlike))
     go good-t good-u true e =
         let w = eqb-true (t .l) (u .l) e in
@@ -73,8 +70,7 @@ unfolding ground-call
 ground-replied side t x value = checked-first t value _ (λ r e. inl e) (λ good. go good (named (t .l) x) refl)
   where
     go : GoodTable t → (b : Bool) → named (t .l) x ≡ b
-        → Replied (λ r. (check-table t ≡ A.Refused r) ⊎ (GoodTable t × (named (t .l) x ≡ false) × (r ≡ R.Name)))
-        (GoodTable t × (named (t .l) x ≡ true)) (Ground (groups-of side t) x)
+        → Replied (GroundEarly t x) (GroundReady t x) (Ground (groups-of side t) x)
         (cond b (replies (ground side (t .l) (entries-of t) x)) (Refused R.Name))
     go good true e = decided (good, e) (ground side (t .l) (entries-of t) x) (ground-exact side (t .l) (entries-of t) x)
     go good false e = early (inr (good, e, refl))
@@ -84,8 +80,7 @@ unfolding independent-call
 independent-replied side t a b value = checked-first t value _ (λ r e. inl e) (λ good. go good (good-sets (t .l) a b) refl)
   where
     go : GoodTable t → (c : Bool) → good-sets (t .l) a b ≡ c
-        → Replied (λ r. (check-table t ≡ A.Refused r) ⊎ (GoodTable t × (good-sets (t .l) a b ≡ false) × (r ≡ R.Name)))
-        (GoodTable t × (good-sets (t .l) a b ≡ true))
+        → Replied (IndependentEarly t a b) (IndependentReady t a b)
         (Independent (groups-of side t) (set (t .l) a) (set (t .l) b))
         (cond c (replies (independent side (t .l) (entries-of t) (set (t .l) a) (set (t .l) b))) (Refused R.Name))
     go good true e = decided (good, e) _ (independent-exact side (t .l) (entries-of t) (set (t .l) a) (set (t .l) b))

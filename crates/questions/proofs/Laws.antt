@@ -1,14 +1,26 @@
--- Laws of the questions that users lean on, as statements over groups. Assumes nothing.
+-- Laws of the questions that users lean on, as statements over groups; of the empty set, as replies. Assumes nothing.
 use mathlib.Core.Path.{_≡_}
+use mathlib.Core.List.{[], _∷_}
 use mathlib.Core.Logic.{⊎-elim}
-use Prim.Native.Nat.{ℕ}
+use Prim.Native.Nat.{ℕ, zero, suc, _^_, _<_}
+use borrow.Author.Tests.{lt-ltb}
 use lib.Dec.{T}
 use lib.ListN.{length}
-use Rattle.model.specs.Groups.{Bits, Groups, Ors, one, more, has, or, AOrB, Those}
+use lib.Pow.{pow-pos}
+use Rattle.model.specs.Groups.{Bits, Groups, Ors, one, more, has, meets, AOrB, Those}
 use Rattle.model.specs.Terms.{var, occurs, variables}
+use Rattle.model.specs.Tables.{Side}
 use Rattle.model.specs.Equations.{Equation, After, WithVariable, WithSome}
 use Rattle.model.specs.Questions.{Equal, Ground, Independent}
 use Rattle.model.proofs.Variables.{meets-variable}
+use Rattle.words.specs.Words.{set}
+use Rattle.tables.specs.declared.Table.{Table}
+use Rattle.tables.specs.Values.{GoodTable}
+use Rattle.tables.proofs.Checking.{good-long}
+use Rattle.sharing.specs.Outcomes.{TableValue}
+use Rattle.questions.specs.declared.Reply.the-variants.{Yes}
+use Rattle.questions.specs.Replies.{good-sets, independent-call}
+use Rattle.questions.proofs.Settled.{independent-settled}
 
 -- ---- Equal is an equivalence, and equal tables give the same answers
 
@@ -52,3 +64,33 @@ pub pair-independent : (l : ℕ) (S : Groups) → ((g : Bits) → S g → length
     → ((g : Bits) → S g → ¬ (T (has g x) × T (has g y))) → Independent S (variables l (var x)) (variables l (var y))
 pair-independent l S long x y f g s h =
     f g s (meets-variable l x g (long g s) .0 (h .0), meets-variable l y g (long g s) .0 (h .1))
+
+-- ---- An empty set is independent of any
+
+empty-meets : (l : ℕ) (g : Bits) → ¬ (T (meets (set l 0) g))
+unfolding set meets
+empty-meets zero g h = h
+empty-meets (suc l) [] h = h
+empty-meets (suc l) (b ∷ g) h = empty-meets l g h
+
+module _ (side : Side) (t : Table) (b : ℕ) (good : GoodTable t) (below : b < 2 ^ (t .l)) where
+  value : TableValue t
+  value = record { cares = good-long good .0; values = good-long good .1 }
+
+  -- The empty set and any set of the table's variables are independent.
+  pub empty-independent : independent-call side t 0 b ≡ Yes
+  unfolding good-sets
+  empty-independent =
+      independent-settled side t 0 b value .yes-where .1 (
+        (good, rw (lt-ltb 0 (2 ^ (t .l)) (pow-pos (t .l)), lt-ltb b (2 ^ (t .l)) below)),
+        λ g s h. empty-meets (t .l) g (h .0),
+      )
+
+  -- Any set of the table's variables and the empty set are independent.
+  pub independent-empty : independent-call side t b 0 ≡ Yes
+  unfolding good-sets
+  independent-empty =
+      independent-settled side t b 0 value .yes-where .1 (
+        (good, rw (lt-ltb b (2 ^ (t .l)) below, lt-ltb 0 (2 ^ (t .l)) (pow-pos (t .l)))),
+        λ g s h. empty-meets (t .l) g (h .1),
+      )

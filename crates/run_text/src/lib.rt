@@ -124,7 +124,7 @@ pub fn tell(pass: Pass, t: Table, e: usize, m: usize, q: &[u8], out: &mut [u8]) 
     ensures { λ r. ⌜
         (r ≡ record {
           state = run-from 0 t 0 (equations-of e m (now (q .entry)));
-          length = length (run-text t (equations-of e m (now (q .entry))));
+          size = length (run-text t (equations-of e m (now (q .entry))));
         })
         × (now (out .exit) ≡ passed pass (now (out .entry)) 0 (run-text t (equations-of e m (now (q .entry)))))
         ⌝ }

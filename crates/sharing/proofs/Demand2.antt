@@ -1,7 +1,7 @@
 -- Demand 2 of the calls themselves, both sides. Assumes nothing.
 use mathlib.Core.Path.{_≡_, refl, sym, _∙_, subst}
 use mathlib.Core.Bool.{Bool, true, false, cond}
-use mathlib.Core.List.{List, [], _∷_}
+use mathlib.Core.List.{List, [], _∷_, map}
 use mathlib.Core.Logic.{inl, inr, _↔_}
 use mathlib.Core.Option.{Option, some, none}
 use Prim.Native.Nat.{ℕ, _^_, _≤_, _<_}
@@ -9,17 +9,16 @@ use native.Mathlib.Omega.{arith}
 use borrow.Author.Tests.{ltb-true, eqb-true, eqb-false, lt-ltb, le-leb, ne-eqb}
 use lib.Dec.{T, ltb, eqb}
 use lib.ListN.{length}
-use Rattle.model.specs.Groups.{Bits, Groups, nonzero, cut, Projected, Joined}
-use Rattle.model.specs.Growth.{Entries}
-use Rattle.model.specs.Terms.{Term, var, variables}
-use Rattle.model.specs.Tables.{Side, opposite, Good, groups, kept, change-side, join, projection}
+use Rattle.model.specs.Groups.{Bits, Groups, nonzero, cut, Joined}
+use Rattle.model.specs.Growth.{Entries, convert}
+use Rattle.model.specs.Terms.{Term}
+use Rattle.model.specs.Tables.{Side, positive, opposite, Good, groups, kept, change-side, join, projection}
 use Rattle.model.specs.Questions.{Equal}
 use Rattle.model.specs.Equations.{Equation, After, equation}
-use Rattle.model.specs.Full.{EquationFull, JoinFull, ProjectionFull}
 use Rattle.model.proofs.Fullness as F
 use Rattle.model.proofs.Demand2 as D
 use Rattle.words.specs.Words.{set}
-use Rattle.words.proofs.Codec.{set-length, set-word-set, nonzero-word}
+use Rattle.words.proofs.Codec.{set-length, sets-long, set-word-set, nonzero-word}
 use Rattle.tables.specs.declared.Table.{Table}
 use Rattle.tables.specs.declared.Refusal.{Refusal}
 use Rattle.tables.specs.declared.Refusal.the-variants as R
@@ -30,13 +29,13 @@ use Rattle.tables.specs.Values.{table-of, entries-of, refuses, made-or-full, go
 use Rattle.tables.proofs.Values.{entries-of-table, table-of-good}
 use Rattle.tables.proofs.Checking.{width-most, passes-good}
 use Rattle.tables.proofs.Tests.{both-true}
+use Rattle.conversion.specs.Conversion.{all-below}
 use Rattle.terms.specs.Checks as C
-use Rattle.sharing.specs.Calls.{after-check, after-term, good-keep, projected, equation-call, join-call, projection-call}
-use Rattle.sharing.specs.Calls.{change-side-call}
-use Rattle.sharing.specs.Outcomes.{groups-of, Becomes, Outcome, early, full, accepted, EquationOutcome, JoinOutcome}
-use Rattle.sharing.specs.Outcomes.{ProjectionOutcome, ChangeOutcome, TableValue, EquationEarly, EquationReady}
-use Rattle.sharing.specs.Outcomes.{JoinEarly, JoinReady}
-use Rattle.sharing.specs.Outcomes.{ProjectionEarly, ProjectionReady}
+use Rattle.sharing.specs.Calls.{after-check, after-term, good-keep, projected, convert-call, equation-call, join-call}
+use Rattle.sharing.specs.Calls.{projection-call, change-side-call}
+use Rattle.sharing.specs.Outcomes.{TableValue, groups-of, Becomes, Outcome, early, full, accepted, ConvertOutcome}
+use Rattle.sharing.specs.Outcomes.{EquationEarly, EquationReady, EquationNeeds, EquationOutcome, JoinOutcome}
+use Rattle.sharing.specs.Outcomes.{ProjectionOutcome, ChangeOutcome}
 
 -- the table of a good list stands for the list's groups
 becomes : (side : Side) (l : ℕ) (S : Groups) (ρ : Entries) → good-width l ≡ true → Good l ρ → Equal (groups side l ρ) S
@@ -71,6 +70,27 @@ module _ {t : Table} {Early : Refusal → Type 0} {Ready : Type 0} {Full : Ready
       go Accepted e = g (passes-good u (value .cares) (value .values) e)
       go (Refused r) e = early (f r e)
 
+-- a call goes on only where a test holds
+module _ {t : Table} {Early : Refusal → Type 0} {Ready : Type 0} {Full : Ready → Type 0} {Result : Ready → Table → Type 0}
+    (r : Refusal) where
+  tested-first : (b : Bool) (a : Answered) → (b ≡ false → Early r) → (b ≡ true → Outcome t Early Ready Full Result a)
+      → Outcome t Early Ready Full Result (cond b a (refuses r t))
+  tested-first true a f g = g refl
+  tested-first false a f g = early (f refl)
+
+-- ---- Convert
+
+-- Converted groups are exactly those of the row; 2, then 4, then 8 where some string of it needs entry 257.
+pub convert-outcome : (l : ℕ) (ws : List ℕ) → ConvertOutcome l ws
+unfolding convert-call
+convert-outcome l ws =
+    tested-first R.Width (good-width l) _ (λ n. inl (n, refl)) (λ w.
+    tested-first R.Stray (all-below l ws) _ (λ n. inr (w, n, refl)) (λ h.
+    grown (w, h) l (convert (map (set l) ws)) (F.convert-full (map (set l) ws))
+    (λ ρ m.
+    becomes positive l _ ρ w (D.convert-good l (map (set l) ws) ρ (sets-long l ws) m .0)
+    (D.convert-exact l (map (set l) ws) ρ (sets-long l ws) m))))
+
 -- ---- Equation
 
 pub equation-outcome : (side : Side) (t : Table) (x : ℕ) (ts : List ℕ) → TableValue t → EquationOutcome side t x ts
@@ -82,8 +102,7 @@ equation-outcome side t x ts value =
     eq u = record { left = x; right = u }
 
     go : GoodTable t → (o : C.Outcome Term) → C.check-equation (t .l) x ts ≡ o
-        → Outcome t (EquationEarly t x ts) (EquationReady t x ts)
-        (λ r. EquationFull side (t .l) (variables (t .l) (var x)) (variables (t .l) (r .term)) (entries-of t))
+        → Outcome t (EquationEarly t x ts) (EquationReady t x ts) (λ r. EquationNeeds side t x (r .term))
         (λ r. Becomes side (t .l) (After (record { left = x; right = r .term }) (groups-of side t)))
         (after-term o t (λ u. made-or-full (t .l) t (equation side (t .l) (eq u) (entries-of t))))
     go good (C.reads u) e =
@@ -99,23 +118,17 @@ pub join-outcome : (side : Side) (t u : Table) → TableValue t → TableValue u
 unfolding join-call
 join-outcome side t u vt vu =
     checked-first t vt _ (λ r e. inl e) (λ good-t.
-    checked-first u vu _ (λ r e. inr (inl (good-t, e))) (λ good-u. go good-t good-u (eqb (t .l) (u .l)) refl))
-  where
-    go : GoodTable t → GoodTable u → (b : Bool) → eqb (t .l) (u .l) ≡ b
-        → Outcome t (JoinEarly t u) (JoinReady t u) (λ r. JoinFull side (entries-of t) (entries-of u))
-        (λ r. Becomes side (t .l) (Joined (groups-of side t) (groups-of side u)))
-        (cond b (made-or-full (t .l) t (join side (entries-of t) (entries-of u))) (refuses R.Unlike t))
-    go good-t good-u true e =
-        let w = eqb-true (t .l) (u .l) e in
-        let list : Good (t .l) (entries-of u) = subst (λ (l : ℕ). Good l (entries-of u)) (sym w) (good-u .list) in
-        grown (good-t, good-u, w) (t .l) (join side (entries-of t) (entries-of u))
-        (F.join-full side (entries-of t) (entries-of u))
-        (λ ρ m.
-        becomes side (t .l) _ ρ (good-t .width)
-        (D.join-good side (t .l) (entries-of t) (entries-of u) ρ (good-t .list) list m)
-        (subst (λ (l : ℕ). Equal (groups side (t .l) ρ) (Joined (groups-of side t) (groups side l (entries-of u)))) w
-        (D.join-exact side (t .l) (entries-of t) (entries-of u) ρ (good-t .list) list m)))
-    go good-t good-u false e = early (inr (inr (good-t, good-u, eqb-false (t .l) (u .l) e, refl)))
+    checked-first u vu _ (λ r e. inr (inl (good-t, e))) (λ good-u.
+    tested-first R.Unlike (eqb (t .l) (u .l)) _ (λ n. inr (inr (good-t, good-u, eqb-false (t .l) (u .l) n, refl))) (λ e.
+    let w = eqb-true (t .l) (u .l) e in
+    let list : Good (t .l) (entries-of u) = subst (λ (l : ℕ). Good l (entries-of u)) (sym w) (good-u .list) in
+    grown (good-t, good-u, w) (t .l) (join side (entries-of t) (entries-of u))
+    (F.join-full side (entries-of t) (entries-of u))
+    (λ ρ m.
+    becomes side (t .l) _ ρ (good-t .width)
+    (D.join-good side (t .l) (entries-of t) (entries-of u) ρ (good-t .list) list m)
+    (subst (λ (l : ℕ). Equal (groups side (t .l) ρ) (Joined (groups-of side t) (groups side l (entries-of u)))) w
+    (D.join-exact side (t .l) (entries-of t) (entries-of u) ρ (good-t .list) list m))))))
 
 -- ---- Projection
 
@@ -148,23 +161,15 @@ kept-width l keep w h =
 pub projection-outcome : (side : Side) (t : Table) (keep : ℕ) → TableValue t → ProjectionOutcome side t keep
 unfolding projection-call projected
 projection-outcome side t keep value =
-    checked-first t value _ (λ r e. inl e) (λ good. go good (good-keep (t .l) keep) refl)
-  where
-    go : GoodTable t → (b : Bool) → good-keep (t .l) keep ≡ b
-        → Outcome t (ProjectionEarly t keep) (ProjectionReady t keep)
-        (λ r. ProjectionFull side (t .l) (set (t .l) keep) (entries-of t))
-        (λ r. Becomes side (kept (set (t .l) keep)) (Projected (set (t .l) keep) (groups-of side t)))
-        (cond b (made-or-full (kept (set (t .l) keep)) t (projection side (t .l) (set (t .l) keep) (entries-of t)))
-        (refuses R.Keep t))
-    go good true e =
-        let k = set (t .l) keep in
-        let long = set-length (t .l) keep in
-        grown (good, e) (kept k) (projection side (t .l) k (entries-of t)) (F.projection-full side (t .l) k (entries-of t))
-        (λ ρ m.
-        becomes side (kept k) _ ρ (kept-width (t .l) keep (good .width) e)
-        (D.projection-good side (t .l) k (entries-of t) ρ long (good .list) m)
-        (D.projection-exact side (t .l) k (entries-of t) ρ long (good .list) m))
-    go good false e = early (inr (good, e, refl))
+    let k = set (t .l) keep in
+    let long = set-length (t .l) keep in
+    checked-first t value _ (λ r e. inl e) (λ good.
+    tested-first R.Keep (good-keep (t .l) keep) _ (λ n. inr (good, n, refl)) (λ e.
+    grown (good, e) (kept k) (projection side (t .l) k (entries-of t)) (F.projection-full side (t .l) k (entries-of t))
+    (λ ρ m.
+    becomes side (kept k) _ ρ (kept-width (t .l) keep (good .width) e)
+    (D.projection-good side (t .l) k (entries-of t) ρ long (good .list) m)
+    (D.projection-exact side (t .l) k (entries-of t) ρ long (good .list) m))))
 
 -- ---- Change of side
 

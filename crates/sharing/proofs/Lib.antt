@@ -1,2 +1,4 @@
 pub mod Answers
 pub mod Demand2
+pub mod Exclusive
+pub mod Past

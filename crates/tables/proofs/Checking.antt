@@ -223,6 +223,10 @@ module _ {t : Table} (g : GoodTable t) where
         ap length (a .values) ∙ length-map (list-words (entries-of t)) (λ (e : Entry). e .value) ∙ words-long,
       )
 
+-- Entries past the count are zero in a good table value.
+pub good-past : {t : Table} → GoodTable t → zero-past (t .n) (t .care) (t .value) ≡ true
+good-past g = holds-zero (good-holds g)
+
 -- The check accepts every good table value.
 pub good-passes : (t : Table) → GoodTable t → check-table t ≡ Accepted
 unfolding check-table

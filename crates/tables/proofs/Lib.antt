@@ -3,3 +3,4 @@ pub mod Tests
 pub mod Scans
 pub mod Values
 pub mod Checking
+pub mod Numbers

@@ -1,5 +1,9 @@
 -- The refusals and their numbers (01, "Refusals").
+use mathlib.Core.Path.{_≡_}
+use mathlib.Core.Bool.{Bool, false, _||_}
+use mathlib.Core.List.{List, [], _∷_}
 use Prim.Native.Nat.{ℕ}
+use lib.Dec.{T, eqb}
 use Rattle.tables.specs.declared.Refusal.{Refusal}
 use Rattle.tables.specs.declared.Refusal.the-variants.{Torn, Width, Entries, Stray, Name, Term, Long, Full, Narrow}
 use Rattle.tables.specs.declared.Refusal.the-variants.{Unlike}
@@ -28,3 +32,16 @@ refusal-number Keep = 11
 abbrev pub answer-number : Answer → ℕ
 answer-number Accepted = 0
 answer-number (Refused r) = refusal-number r
+
+-- The number is one of ns.
+unfoldable pub member : ℕ → List ℕ → Bool
+member k [] = false
+member k (n ∷ ns) = eqb k n || member k ns
+
+-- The refusal has one of these numbers.
+unfoldable pub one-of : List ℕ → Refusal → Bool
+one-of ns r = member (refusal-number r) ns
+
+-- Whatever the answer is refused by has one of these numbers.
+abbrev pub Numbered : List ℕ → Answer → Type 0
+Numbered ns a = (r : Refusal) → a ≡ Refused r → T (one-of ns r)

@@ -1,20 +1,23 @@
 -- What the check of a term answers, from what the reader answers. Assumes nothing.
-use mathlib.Core.Path.{_≡_, refl, sym, ap, _∙_}
+use mathlib.Core.Path.{_≡_, refl, sym, ap, subst, _∙_}
 use mathlib.Core.Bool.{Bool, true, false, cond}
-use mathlib.Core.List.{List}
+use mathlib.Core.List.{List, [], _∷_}
 use mathlib.Core.Option.{Option, some, none}
 use Prim.Native.Nat.{ℕ}
 use native.Mathlib.Omega.{arith}
 use borrow.Author.Tests.{eqb-true}
-use lib.Dec.{eqb}
+use lib.Dec.{T, leb, eqb}
 use lib.ListN.{length}
 use lib.Seq.{take-all}
 use Rattle.model.specs.Growth.{_>>=_}
 use Rattle.model.specs.Terms.{Term, occurs, variables}
-use Rattle.model.specs.Tokens.{Read, read-within, read-term, whole-term}
+use Rattle.model.specs.Tokens.{named, Read, read-within, read-term, whole-term}
 use Rattle.model.proofs.Given.{Given, nothing, given}
+use Rattle.tables.specs.declared.Refusal.{Refusal}
 use Rattle.tables.specs.declared.Refusal.the-variants as R
-use Rattle.terms.specs.Checks.{used, took, all-named, word-of, term-or-6, check-term, checked}
+use Rattle.tables.specs.Refusals.{member, one-of}
+use Rattle.terms.specs.Checks.{used, took, all-named, word-of, Outcome, refuses, term-or-6, check-term, most-tokens}
+use Rattle.terms.specs.Checks.{check-equation, checked}
 use Rattle.terms.specs.declared.Reading.{Reading}
 use Rattle.terms.specs.declared.Reading.the-variants.{Used, NoTerm}
 use Rattle.terms.specs.declared.Checked.{Checked}
@@ -44,3 +47,22 @@ term-checked l ts a n e = rw (← e, n) (go (read-within (length ts) l ts) (read
             let h = eqb-true (r .used) (length ts) i in
             ap Variables (ap word-of (sym (take-all (r .used) ts (omega arith))) ∙ t .word)
         whole false i = refl
+
+-- The checks of an equation refuse by 7, 5 or 6.
+pub equation-numbers : (l x : ℕ) (ts : List ℕ) (r : Refusal) → check-equation l x ts ≡ refuses r
+    → T (one-of (7 ∷ 5 ∷ 6 ∷ []) r)
+unfolding check-equation check-term term-or-6 one-of member
+equation-numbers l x ts r e = go (leb (length ts) most-tokens) (named l x) (all-named l ts) (whole-term l ts) e
+  where
+    by : (s : Refusal) → T (one-of (7 ∷ 5 ∷ 6 ∷ []) s) → _≡_ {A = Outcome Term} (refuses s) (refuses r)
+        → T (one-of (7 ∷ 5 ∷ 6 ∷ []) r)
+    by s h d = subst (λ (i : Refusal). T (one-of (7 ∷ 5 ∷ 6 ∷ []) i)) (let p : s ≡ r = cc in p) h
+
+    go : (a b c : Bool) (o : Option Term)
+        → cond a (cond b (cond c (term-or-6 o) (refuses R.Name)) (refuses R.Name)) (refuses R.Long) ≡ refuses r
+        → T (one-of (7 ∷ 5 ∷ 6 ∷ []) r)
+    go true true true (some u) d = absurd (let z : _≡_ {A = ℕ} 0 1 = cc in omega arith)
+    go true true true none d = by R.Term tt d
+    go true true false o d = by R.Name tt d
+    go true false c o d = by R.Name tt d
+    go false b c o d = by R.Long tt d

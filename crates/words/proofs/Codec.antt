@@ -1,7 +1,7 @@
 -- The words of a string and the string of two words are each other's inverse; so are sets and their words. Assumes nothing.
 use mathlib.Core.Path.{_≡_, refl, sym, ap, ap₂, _∙_}
 use mathlib.Core.Bool.{Bool, true, false, _||_, not, cond}
-use mathlib.Core.List.{[], _∷_}
+use mathlib.Core.List.{List, [], _∷_, map}
 use Prim.Native.Nat.{ℕ, zero, suc, _+_, _-_, _*_, _/_, _%_, _^_, _<_}
 use native.Mathlib.Nat.{pow-suc, div-add-mod', div-one, zero-div, not-suc-le-zero, le-of-suc-le-suc}
 use native.Mathlib.Omega.{arith}
@@ -14,6 +14,7 @@ use lib.ListN.{length, getD, drop}
 use lib.Pow.{pow-pos, shr-shr}
 use Rattle.model.specs.Groups.{Bits, nonzero, or}
 use Rattle.model.specs.Strings.{Trit, t0, t1, t*, Trits, exactly, stars}
+use Rattle.model.proofs.Given.{Each}
 use Rattle.words.specs.declared.Entry.{Entry}
 use Rattle.words.specs.Words.{care-bit, value-bit, care-of, value-of, word, set-word, trit-of, string, set, Encodes}
 use Rattle.words.proofs.Digits.{care-bit-lt, value-bit-lt, eqb-digit}
@@ -129,6 +130,12 @@ pub set-length : (l w : ℕ) → length (set l w) ≡ l
 unfolding set
 set-length zero w = refl
 set-length (suc l) w = ap suc (set-length l (w / 2))
+
+-- The sets of a row of words have l positions each.
+pub sets-long : (l : ℕ) (ws : List ℕ) → Each (λ (g : Bits). length g ≡ l) (map (set l) ws)
+unfolding Each
+sets-long l [] = tt
+sets-long l (w ∷ ws) = (set-length l w, sets-long l ws)
 
 digit-back : (d : ℕ) → d < 2 → cond (eqb d 1) 1 0 ≡ d
 digit-back zero h = refl

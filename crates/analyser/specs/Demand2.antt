@@ -1,0 +1,181 @@
+-- Demand 2 of the exported calls that write a table (01, "Written form" and "Refusals"): which number each returns and where, the
+-- groups of the table that it writes, and every byte of its output.
+use mathlib.Core.Path.{_≡_}
+use mathlib.Core.Bool.{Bool, true, false}
+use mathlib.Core.List.{List, [], _∷_, _++_, map}
+use mathlib.Core.Logic.{_⊎_, _↔_}
+use Prim.Native.Nat.{ℕ, _≤_}
+use lib.Dec.{T, leb}
+use lib.ListN.{length, take, drop}
+use Rattle.model.specs.Groups.{Listed, Joined, Projected}
+use Rattle.model.specs.Growth.{limit}
+use Rattle.model.specs.Terms.{Term}
+use Rattle.model.specs.Tables.{Side, positive, opposite, groups, kept}
+use Rattle.model.specs.Equations.{After}
+use Rattle.words.specs.Words.{set}
+use Rattle.tables.specs.declared.Table.{Table}
+use Rattle.tables.specs.declared.Refusal.{Refusal}
+use Rattle.tables.specs.declared.Refusal.the-variants as R
+use Rattle.tables.specs.declared.Answer.the-variants.{Accepted, Refused}
+use Rattle.tables.specs.declared.Answered.{Answered}
+use Rattle.tables.specs.Refusals.{refusal-number, member, one-of}
+use Rattle.tables.specs.Values.{zero-table, accepts, refuses, good-width, all-clean}
+use Rattle.terms.specs.Checks as C
+use Rattle.sharing.specs.Calls.{good-keep, convert-call}
+use Rattle.sharing.specs.Outcomes.{groups-of, Becomes, ConvertEarly, ConvertReady, ConvertNeeds, EquationNeeds, JoinNeeds}
+use Rattle.sharing.specs.Outcomes.{ProjectionNeeds, ChangeNeeds}
+use Rattle.forms.specs.declared.Extent.the-variants.{Whole, Front}
+use Rattle.forms.specs.Tables.{sized, first-size, second-size, table-length, fits, cares, values, written-entries, read-table}
+use Rattle.forms.specs.Tables.{table-form}
+use Rattle.byte_calls.specs.Calls.{check-bytes, tokens-of, change-side-bytes, equation-bytes, join-bytes, projection-bytes}
+use Rattle.outputs.specs.Outputs.{put-number, put-bytes}
+
+-- ---- What is handed back
+
+-- The output holds the form of the table.
+abbrev pub Fits : Table → List ℕ → Type 0
+Fits u out = table-length (u .n) ≤ length out
+
+-- The output, before and after the form of u was written: the form, and past it what it held; it reads as u, with what follows the
+-- form and without.
+pub record Wrote (u : Table) (before now : List ℕ) : Type 0 where
+  pub bytes : now ≡ table-form u ++ drop (table-length (u .n)) before
+  pub reads : read-table Front now ≡ accepts u
+  pub alone : read-table Whole (take (table-length (u .n)) now) ≡ accepts u
+
+-- The law of handing back: where the call's own answer is accepted, 0 exactly where the output holds the form and 9 exactly where
+-- it does not, so that no 2, 3 or 4 comes from there; a refusal keeps its number. The form is written at 0, and nothing else.
+pub record HandedBack (a : Answered) (out : List ℕ) : Type 0 where
+  pub zero-where : a .answer ≡ Accepted → (put-number a out ≡ 0) ↔ Fits (a .table) out
+  pub nine-where : a .answer ≡ Accepted → (put-number a out ≡ 9) ↔ ¬ (Fits (a .table) out)
+  pub refused : (r : Refusal) → a .answer ≡ Refused r → put-number a out ≡ refusal-number r
+  pub wrote : put-number a out ≡ 0 → Wrote (a .table) out (put-bytes a out)
+  pub unwritten : ¬ (put-number a out ≡ 0) → put-bytes a out ≡ out
+
+-- What an exported call that writes a table returns. 0 exactly where it is ready, no list of the growth rule is full and the output
+-- holds the form: then the bytes written read as a table with the result. 8 exactly where it is ready and some list needs entry 257. 9
+-- exactly where only the output is too short. A number of ns exactly in its condition. No other number; and but for 0 the output
+-- holds what it held.
+pub record Exported (ns : List ℕ) (Early : Refusal → Type 0) (Ready : Type 0) (Full : Ready → Type 0)
+    (Result : Ready → Table → Type 0) (a : Answered) (out : List ℕ) : Type 0 where
+  pub zero-where : (put-number a out ≡ 0) ↔ ((ready : Ready) × ¬ (Full ready) × Fits (a .table) out)
+  pub eight-where : (put-number a out ≡ 8) ↔ ((ready : Ready) × Full ready)
+  pub nine-where : (put-number a out ≡ 9) ↔ ((ready : Ready) × ¬ (Full ready) × ¬ (Fits (a .table) out))
+  pub early-where : (r : Refusal) → T (one-of ns r) → (put-number a out ≡ refusal-number r) ↔ Early r
+  pub no-other : T (member (put-number a out) (0 ∷ 8 ∷ 9 ∷ ns))
+  pub result : put-number a out ≡ 0 → (ready : Ready) × Result ready (a .table) × Wrote (a .table) out (put-bytes a out)
+  pub unwritten : ¬ (put-number a out ≡ 0) → put-bytes a out ≡ out
+
+-- ---- Reading
+
+-- The bytes read as the table t.
+abbrev pub Reads : List ℕ → Table → Type 0
+Reads b t = read-table Whole b ≡ accepts t
+
+-- The bytes do not read, by the refusal r.
+abbrev pub Unread : List ℕ → Refusal → Type 0
+Unread b r = read-table Whole b ≡ refuses r zero-table
+
+-- The test fails, and x is the refusal that it gives.
+abbrev pub Fails : Bool → Refusal → Refusal → Type 0
+Fails test x r = (test ≡ false) × (r ≡ x)
+
+-- No entry has a bit above l or a value without care.
+abbrev pub entries-clean : List ℕ → Bool
+entries-clean b = all-clean (first-size b) (second-size b) (cares (second-size b) b) (values (second-size b) b)
+
+-- The length is what the sizes give.
+abbrev pub right-length : List ℕ → Bool
+right-length b = fits Whole (table-length (second-size b)) (length b)
+
+-- The first test that a form fails: sizes present (1), 2, 3, length (1), 4 by entry.
+abbrev pub FormEarly : List ℕ → Refusal → Type 0
+FormEarly b r =
+    Fails (sized b) R.Torn r ⊎ ((sized b ≡ true)
+    × (Fails (good-width (first-size b)) R.Width r ⊎ ((good-width (first-size b) ≡ true)
+    × (Fails (leb (second-size b) limit) R.Entries r ⊎ ((leb (second-size b) limit ≡ true)
+    × (Fails (right-length b) R.Torn r ⊎ ((right-length b ≡ true) × Fails (entries-clean b) R.Stray r)))))))
+
+-- A form that passes every test.
+abbrev pub FormReady : List ℕ → Type 0
+FormReady b =
+    (sized b ≡ true) × ((good-width (first-size b) ≡ true) × ((leb (second-size b) limit ≡ true)
+    × ((right-length b ≡ true) × (entries-clean b ≡ true))))
+
+-- `sharing_read`, of a table of either side: never 8; the groups are those of the entries written.
+abbrev pub ReadExported : List ℕ → List ℕ → Type 0
+ReadExported b out =
+    Exported (1 ∷ 2 ∷ 3 ∷ 4 ∷ []) (FormEarly b) (FormReady b) (λ _. ⊥)
+    (λ _ u. (side : Side)
+    → Becomes side (first-size b) (groups side (first-size b) (written-entries (first-size b) (second-size b) b)) u)
+    (read-table Whole b) out
+
+-- ---- Convert
+
+-- `sharing_convert`: the groups of the row.
+abbrev pub ConvertExported : ℕ → List ℕ → List ℕ → Type 0
+ConvertExported l ws out =
+    Exported (2 ∷ 4 ∷ []) (ConvertEarly l ws) (ConvertReady l ws) (λ _. ConvertNeeds l ws)
+    (λ _. Becomes positive l (Listed l (map (set l) ws))) (convert-call l ws) out
+
+-- ---- A call on one table that is read first
+
+-- The reader's refusals; then those of the call on the table that was read.
+abbrev pub AfterRead : List ℕ → (Table → Refusal → Type 0) → Refusal → Type 0
+AfterRead b Early r = Unread b r ⊎ ((t : Table) × Reads b t × Early t r)
+
+-- The bytes read as a table, with which the call is ready.
+abbrev pub ReadAnd : List ℕ → (Table → Type 0) → Type 0
+ReadAnd b Ready = (t : Table) × Reads b t × Ready t
+
+-- `sharing_change_side`: the same groups on the other side.
+abbrev pub ChangeExported : Side → List ℕ → List ℕ → Type 0
+ChangeExported side b out =
+    Exported (1 ∷ 2 ∷ 3 ∷ 4 ∷ []) (Unread b) ((t : Table) × Reads b t) (λ q. ChangeNeeds (q .0))
+    (λ q. Becomes (opposite side) (q .0 .l) (groups-of side (q .0))) (change-side-bytes side b) out
+
+-- The refusals of a term as bytes: 7, 1; then 5 of x, 5 of the tokens, 6.
+abbrev pub TermEarly : ℕ → List ℕ → Table → Refusal → Type 0
+TermEarly x term t r =
+    (check-bytes term ≡ Refused r)
+    ⊎ ((check-bytes term ≡ Accepted) × (C.check-equation (t .l) x (tokens-of term) ≡ C.refuses r))
+
+-- The bytes are the tokens of one whole term.
+abbrev pub TermReady : ℕ → List ℕ → Table → Type 0
+TermReady x term t =
+    (check-bytes term ≡ Accepted) × ((u : Term) × (C.check-equation (t .l) x (tokens-of term) ≡ C.reads u))
+
+-- `sharing_equation`: the groups after the equation, by the binary definition.
+abbrev pub EquationExported : Side → List ℕ → ℕ → List ℕ → List ℕ → Type 0
+EquationExported side b x term out =
+    Exported (1 ∷ 2 ∷ 3 ∷ 4 ∷ 7 ∷ 5 ∷ 6 ∷ []) (AfterRead b (TermEarly x term)) (ReadAnd b (TermReady x term))
+    (λ q. EquationNeeds side (q .0) x (q .2 .1 .0))
+    (λ q. Becomes side (q .0 .l) (After (record { left = x; right = q .2 .1 .0 }) (groups-of side (q .0))))
+    (equation-bytes side b x term) out
+
+-- `sharing_project`: the projected groups; 11 for a set with no variable or one above l.
+abbrev pub ProjectionExported : Side → List ℕ → ℕ → List ℕ → Type 0
+ProjectionExported side b keep out =
+    Exported (1 ∷ 2 ∷ 3 ∷ 4 ∷ 11 ∷ []) (AfterRead b (λ t. Fails (good-keep (t .l) keep) R.Keep))
+    (ReadAnd b (λ t. good-keep (t .l) keep ≡ true))
+    (λ q. ProjectionNeeds side (q .0) keep)
+    (λ q. Becomes side (kept (set (q .0 .l) keep)) (Projected (set (q .0 .l) keep) (groups-of side (q .0))))
+    (projection-bytes side b keep) out
+
+-- ---- Join: the first table is read first
+
+-- The second table's refusals; then 10 where the widths differ.
+abbrev pub SecondEarly : List ℕ → Table → Refusal → Type 0
+SecondEarly c t = AfterRead c (λ u r. ¬ (t .l ≡ u .l) × (r ≡ R.Unlike))
+
+-- The second table reads, with the same width.
+abbrev pub SecondReady : List ℕ → Table → Type 0
+SecondReady c t = ReadAnd c (λ u. t .l ≡ u .l)
+
+-- `sharing_join`: the union of the groups.
+abbrev pub JoinExported : Side → List ℕ → List ℕ → List ℕ → Type 0
+JoinExported side b c out =
+    Exported (1 ∷ 2 ∷ 3 ∷ 4 ∷ 10 ∷ []) (AfterRead b (SecondEarly c)) (ReadAnd b (SecondReady c))
+    (λ q. JoinNeeds side (q .0) (q .2 .0))
+    (λ q. Becomes side (q .0 .l) (Joined (groups-of side (q .0)) (groups-of side (q .2 .0))))
+    (join-bytes side b c) out
