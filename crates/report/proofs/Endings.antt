@@ -1,17 +1,14 @@
 -- How a report ends, by its input: refused before any equation is applied, with every equation applied, or at the first full
 -- one. Assumes nothing.
-use mathlib.Core.Path.{_≡_, refl, sym, ap, subst, _∙_}
-use mathlib.Core.Bool.{Bool, true, false, _&&_, cond}
+use mathlib.Core.Path.{_≡_, refl, sym, ap, _∙_}
+use mathlib.Core.Bool.{Bool, true, false, cond}
 use mathlib.Core.List.{List, [], _∷_, _++_, append-nil, append-assoc}
 use mathlib.Core.Logic.{_↔_}
-use mathlib.Core.Option.{Option, some, none}
 use Prim.Native.Nat.{ℕ, suc, _+_, _≤_, _<_}
 use native.Mathlib.Omega.{arith}
-use borrow.Author.Tests.{le-leb, leb-true, leb-false, eqb-true, eqb-false}
-use lib.Dec.{ltb, leb, eqb}
+use borrow.Author.Tests.{le-leb, leb-true, leb-false, eqb-true}
+use lib.Dec.{T, leb, eqb}
 use lib.ListN.{length, drop}
-use Rattle.model.specs.Terms.{Term}
-use Rattle.model.specs.Tokens.{named, whole-term}
 use Rattle.model.specs.Tables.{positive}
 use Rattle.tables.specs.declared.Table.{Table}
 use Rattle.tables.specs.declared.Refusal.{Refusal}
@@ -19,19 +16,17 @@ use Rattle.tables.specs.declared.Refusal.the-variants as R
 use Rattle.tables.specs.declared.Answer.{Answer}
 use Rattle.tables.specs.declared.Answer.the-variants.{Accepted, Refused}
 use Rattle.tables.specs.declared.Answered.{Answered}
-use Rattle.tables.specs.Refusals.{refusal-number, answer-number}
+use Rattle.tables.specs.Refusals.{refusal-number, member, one-of}
 use Rattle.tables.specs.Values.{accepts, GoodTable}
-use Rattle.tables.proofs.Tests.{both-true}
-use Rattle.terms.specs.Checks as C
+use Rattle.tables.proofs.Numbers.{within, one-of-more, at-most, number-most}
 use Rattle.sharing.specs.Calls.{side-told, equation-call}
 use Rattle.forms.specs.declared.Extent.the-variants.{Front}
-use Rattle.codec.specs.Numbers.{sum}
-use Rattle.forms.specs.Tables.{sized, first-size, second-size, read-table}
-use Rattle.forms.specs.Equations.{Written, most-equations, equations-length, counts, equations-of, after-equation, check-each}
-use Rattle.forms.specs.Equations.{check-sized, check-equations}
-use Rattle.forms.proofs.Tests.{reads-passed, equations-passed}
-use Rattle.forms.proofs.Tests.{early as refused-early}
-use Rattle.forms.proofs.Reading.{entries-grow, read-good}
+use Rattle.forms.specs.Tables.{first-size, second-size, read-table}
+use Rattle.forms.specs.Equations.{Written, check-each}
+use Rattle.forms.specs.Equations.{check-equations}
+use Rattle.forms.proofs.Tests.{equations-passed}
+use Rattle.forms.proofs.Reading.{read-good}
+use Rattle.forms.proofs.Numbers.{read-numbers, equations-numbers}
 use Rattle.running.specs.declared.Running.{Running}
 use Rattle.running.specs.States.{state, none-applied, go-on, run-from}
 use Rattle.running.proofs.Steps.{equations-ready}
@@ -43,9 +38,9 @@ use Rattle.run_text.specs.Runs.{text-on, text-from, run-text}
 use Rattle.run_text.proofs.Equations.{run-most}
 use Rattle.report.specs.Reports.{most-input, after-table, refused-text, input-text, input-run, narrowed}
 use Rattle.report.specs.Reports.{fits-in, told, fitted, report-of, report-bytes}
-use Rattle.report.specs.Endings.{InputRefused, long, unread, unchecked, InputGood, input-equations, IsFull, most-text}
+use Rattle.report.specs.Endings.{early-numbers, InputRefused, long, unread, unchecked, InputGood, input-equations, IsFull, most-text}
 use Rattle.report.specs.Endings.{Applied, no-more, one-more, applied-text, full-line, Ending, early, through, full}
-use Rattle.report.proofs.Fitting.{code-positive, refused-length, told-fits, told-narrow}
+use Rattle.report.proofs.Fitting.{refused-length, told-fits, told-narrow}
 use Rattle.report.proofs.Inputs.{rest-refused, rest-goes, input-long, input-refused, input-goes}
 
 -- ---- The equations
@@ -83,7 +78,7 @@ course (w ∷ ws) t good e = go (next .answer) refl (course ws (next .table))
 run-applied : {t u : Table} {before : List Written} (rest : List Written) (k : ℕ) → Applied t before u
     → run-from 0 t k (before ++ rest) ≡ run-from 0 u (k + length before) rest
 unfolding run-from go-on side-told
-run-applied {t} rest k no-more = let none : k ≡ k + 0 = omega arith in ap (λ (j : ℕ). run-from 0 t j rest) none
+run-applied {t} rest k no-more = let same : k ≡ k + 0 = omega arith in ap (λ (j : ℕ). run-from 0 t j rest) same
 run-applied {u = v} rest k (one-more {ws = ws} e a) =
     let same : k + 1 + length ws ≡ k + suc (length ws) = omega arith in
     rw e (run-applied rest (k + 1) a ∙ ap (λ (j : ℕ). run-from 0 v j rest) same)
@@ -92,7 +87,7 @@ run-applied {u = v} rest k (one-more {ws = ws} e a) =
 text-applied : {t u : Table} {before : List Written} (rest : List Written) (k : ℕ) → Applied t before u
     → text-from t k (before ++ rest) ≡ applied-text t k before ++ text-from u (k + length before) rest
 unfolding text-from text-on equation-text applied-text
-text-applied {t} rest k no-more = let none : k ≡ k + 0 = omega arith in ap (λ (j : ℕ). text-from t j rest) none
+text-applied {t} rest k no-more = let same : k ≡ k + 0 = omega arith in ap (λ (j : ℕ). text-from t j rest) same
 text-applied {u = v} rest k (one-more {u = u} {ws = ws} e a) =
     let same : k + 1 + length ws ≡ k + suc (length ws) = omega arith in
     rw e (ap (_++_ (block eq k u)) (text-applied rest (k + 1) a
@@ -128,72 +123,6 @@ module _ {t u : Table} where
         ap (_++_ (first-text t)) (text-applied (w ∷ after) 1 a ∙ ap (_++_ (applied-text t 1 before))
         (rw f (append-nil (full-line (1 + length before)) ∙ ap full-line count)))
 
--- ---- The numbers before any equation is applied
-
--- at most 7 whatever the test says
-either-few : {A : Type 0} (f : A → ℕ) (c : Bool) (x y : A) → f x ≤ 7 → f y ≤ 7 → f (cond c x y) ≤ 7
-either-few f true x y p q = p
-either-few f false x y p q = q
-
--- the number of what one equation's checks say, 0 where it reads
-abbrev outcome-number : C.Outcome Term → ℕ
-outcome-number (C.reads u) = 0
-outcome-number (C.refuses r) = refusal-number r
-
-term-few : (o : Option Term) → outcome-number (C.term-or-6 o) ≤ 7
-unfolding C.term-or-6
-term-few (some u) = omega arith
-term-few none = omega arith
-
-equation-few : (l x : ℕ) (ts : List ℕ) → outcome-number (C.check-equation l x ts) ≤ 7
-unfolding C.check-equation C.check-term
-equation-few l x ts =
-    either-few outcome-number (leb (length ts) C.most-tokens) _ _
-    (either-few outcome-number (named l x) _ _
-    (either-few outcome-number (C.all-named l ts) _ _ (term-few (whole-term l ts)) (omega arith))
-    (omega arith))
-    (omega arith)
-
-after-few : (o : C.Outcome Term) (a : Answer) → outcome-number o ≤ 7 → answer-number a ≤ 7
-    → answer-number (after-equation o a) ≤ 7
-unfolding after-equation
-after-few (C.reads u) a p q = q
-after-few (C.refuses r) a p q = p
-
-each-few : (l : ℕ) (ws : List Written) → answer-number (check-each l ws) ≤ 7
-unfolding check-each
-each-few l [] = omega arith
-each-few l (w ∷ ws) =
-    after-few (C.check-equation l (w .left) (w .tokens)) (check-each l ws) (equation-few l (w .left) (w .tokens))
-    (each-few l ws)
-
-equations-few : (l : ℕ) (b : List ℕ) → answer-number (check-equations l b) ≤ 7
-unfolding check-equations check-sized
-equations-few l b =
-    let e = first-size b in
-    let m = second-size b in
-    either-few answer-number (sized b) _ _
-    (either-few answer-number (leb e most-equations && leb m C.most-tokens) _ _
-    (either-few answer-number (eqb (length b) (equations-length e m)) _ _
-    (either-few answer-number (eqb (sum (counts e b)) m) _ _ (each-few l (equations-of e m b)) (omega arith))
-    (omega arith))
-    (omega arith))
-    (omega arith)
-
-table-few : (b : List ℕ) → answer-number (read-table Front b .answer) ≤ 7
-table-few b = go (refused-early (read-table Front b)) refl
-  where
-    k : ℕ
-    k = answer-number (read-table Front b .answer)
-
-    go : (c : Bool) → refused-early (read-table Front b) ≡ c → k ≤ 7
-    go true e = let h = leb-true k 4 (both-true (ltb 0 k) (leb k 4) e .1) in omega (arith, h)
-    go false e =
-        let p = reads-passed Front b (read-table Front b) e refl in
-        let g = entries-grow (p .0) in
-        let is : k ≡ 0 = ap (λ (a : Answered). answer-number (a .answer)) (sym (p .1) ∙ g .2) in
-        omega (arith, is)
-
 -- ---- An output that is too short
 
 -- a state other than 9 becomes 9 only where it was accepted and its text does not fit
@@ -219,6 +148,10 @@ narrow-there s text out z short =
 
 -- ---- The input
 
+early-most : T (at-most 7 early-numbers)
+unfolding at-most
+early-most = tt
+
 module _ (input : List ℕ) where
   -- What an input that is refused comes to: it has applied none, and only the number is told.
   pub refused-ends : {r : Refusal} → InputRefused input r
@@ -239,14 +172,12 @@ module _ (input : List ℕ) where
       (sym (rest .0 ∙ whole .0), sym (rest .1 ∙ whole .1))
 
   -- An input is refused before any equation is applied only by 1 to 7.
-  pub refused-numbers : {r : Refusal} → InputRefused input r → (1 ≤ refusal-number r) × (refusal-number r ≤ 7)
-  refused-numbers {r} h = (let other = eqb-false (refusal-number r) 0 (code-positive r) in omega (arith, other), few h)
-    where
-      few : {s : Refusal} → InputRefused input s → refusal-number s ≤ 7
-      few (long over) = omega arith
-      few (unread small e) = subst (λ (a : Answer). answer-number a ≤ 7) e (table-few input)
-      few (unchecked {t = t} small reads c) =
-          subst (λ (a : Answer). answer-number a ≤ 7) c (equations-few (t .l) (after-table input))
+  pub refused-numbers : {r : Refusal} → InputRefused input r → T (one-of early-numbers r)
+  unfolding one-of member within
+  refused-numbers (long over) = tt
+  refused-numbers (unread {r} few e) = one-of-more (1 ∷ 2 ∷ 3 ∷ 4 ∷ []) early-numbers r tt (read-numbers Front input r e)
+  refused-numbers (unchecked {r} {t} few reads c) =
+      one-of-more (1 ∷ 7 ∷ 6 ∷ 5 ∷ []) early-numbers r tt (equations-numbers (t .l) (after-table input) r c)
 
   -- An input that is refused does not pass its checks.
   pub refused-not-good : {r : Refusal} {t : Table} → InputRefused input r → InputGood input t → ⊥
@@ -323,7 +254,8 @@ module _ (input : List ℕ) where
   code-most = go ending
     where
       go : Ending input → input-run input .code ≤ 8
-      go (early h run text) = let few = refused-numbers h .1 in rw run (omega (arith, few))
+      go (early {r} h run text) =
+          let few = number-most 7 early-numbers r early-most (refused-numbers h) in rw run (omega (arith, few))
       go (through g a run text) = rw run (omega arith)
       go (full before w after g split a f run text) = rw run (omega arith)
 

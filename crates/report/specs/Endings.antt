@@ -30,6 +30,10 @@ pub data InputRefused (input : List ℕ) : Refusal → Type 0 where
   unchecked : {r : Refusal} {t : Table} → length input ≤ most-input → read-table Front input ≡ accepts t
       → check-equations (t .l) (after-table input) ≡ Refused r → InputRefused input r
 
+-- The numbers by which it is refused then: 8 is not among them, nor 9.
+abbrev pub early-numbers : List ℕ
+early-numbers = 1 ∷ 2 ∷ 3 ∷ 4 ∷ 5 ∷ 6 ∷ 7 ∷ []
+
 -- The whole input passes its checks, and its table reads as t.
 pub record InputGood (input : List ℕ) (t : Table) : Type 0 where
   pub few : length input ≤ most-input

@@ -3,9 +3,9 @@ use mathlib.Core.Path.{_≡_, refl, sym, ap, subst, _∙_}
 use mathlib.Core.Bool.{Bool, true, false, _&&_, cond}
 use mathlib.Core.List.{List, [], _∷_}
 use mathlib.Core.Logic.{⊎-elim}
-use Prim.Native.Nat.{ℕ}
+use Prim.Native.Nat.{ℕ, _≤_}
 use native.Mathlib.Omega.{arith}
-use borrow.Author.Tests.{eqb-true}
+use borrow.Author.Tests.{leb-true, eqb-true}
 use lib.Dec.{T, leb, eqb}
 use lib.ListN.{getD}
 use Rattle.model.specs.Growth.{limit}
@@ -39,6 +39,27 @@ member-within k (n ∷ ns) ms w h =
 pub one-of-more : (ns ms : List ℕ) (r : Refusal) → T (within ns ms) → T (one-of ns r) → T (one-of ms r)
 unfolding one-of
 one-of-more ns ms r = member-within (refusal-number r) ns ms
+
+-- none of the numbers is above m
+unfoldable pub at-most : ℕ → List ℕ → Bool
+at-most m [] = true
+at-most m (n ∷ ns) = leb n m && at-most m ns
+
+member-most : (m k : ℕ) (ns : List ℕ) → T (at-most m ns) → T (member k ns) → k ≤ m
+unfolding at-most member
+member-most m k [] w h = absurd h
+member-most m k (n ∷ ns) w h =
+    ⊎-elim
+    (λ e.
+    let d = eqb-true k n (true-of (eqb k n) e) in
+    let f = leb-true n m (true-of (leb n m) (and-first (leb n m) (at-most m ns) w)) in
+    omega (arith, d, f))
+    (member-most m k ns (and-second (leb n m) (at-most m ns) w)) (or-cases (eqb k n) (member k ns) h)
+
+-- A refusal with one of some numbers, none of which is above m, has a number of at most m.
+pub number-most : (m : ℕ) (ns : List ℕ) (r : Refusal) → T (at-most m ns) → T (one-of ns r) → refusal-number r ≤ m
+unfolding one-of
+number-most m ns r = member-most m (refusal-number r) ns
 
 -- ---- The parts of a check
 
