@@ -88,7 +88,7 @@ read-as b t e width side = record {
 }
 
 -- Every answer of reading.
-form-outcome : (b : List ℕ) → Outcome zero-table (FormEarly b) (FormReady b) (λ _. ⊥) (λ _. ReadAs b) (read-table Whole b)
+pub form-outcome : (b : List ℕ) → Outcome zero-table (FormEarly b) (FormReady b) (λ _. ⊥) (λ _. ReadAs b) (read-table Whole b)
 unfolding read-table read-sized read-entries table-of
 form-outcome b =
     tested R.Torn (sized b) (λ s. tested R.Width (good-width (first-size b)) (λ w.
@@ -99,8 +99,8 @@ form-outcome b =
     let reads = passed-reads Whole b p ∙ g .2 in
     (_, g .2, read-as b _ reads refl))))))
 
--- bytes read, or they do not
-reads-or-not : {E : Refusal → Type 0} {P : Type 0} {S : P → Table → Type 0} {a : Answered}
+-- Bytes read, or they do not.
+pub reads-or-not : {E : Refusal → Type 0} {P : Type 0} {S : P → Table → Type 0} {a : Answered}
     → Outcome zero-table E P (λ _. ⊥) S a → ((r : Refusal) × (a ≡ refuses r zero-table)) ⊎ ((t : Table) × (a ≡ accepts t))
 reads-or-not (early {r} h) = inl (r, refl)
 reads-or-not (full p h) = absurd h
@@ -109,8 +109,8 @@ reads-or-not (accepted p {u} n h) = inr (u, refl)
 -- ---- After a table was read
 
 module _ (b : List ℕ) where
-  -- two tables that the bytes read as are one
-  read-one : {t u : Table} → Reads b t → Reads b u → t ≡ u
+  -- Two tables that the bytes read as are one.
+  pub read-one : {t u : Table} → Reads b t → Reads b u → t ≡ u
   read-one e f = ap (λ (a : Answered). a .table) (sym e ∙ f)
 
   read-clash : {P : Type 0} {r : Refusal} {t : Table} → Unread b r → Reads b t → P
@@ -145,8 +145,8 @@ module _ (b : List ℕ) {G : Table → Refusal → Type 0} {H : Table → Type 0
                 (outcome-as (λ r e. inr (h .0, h .1, e)) (λ p. (h .0, h .1, p)) (λ p. (λ k. k, λ k. k)) (λ p u k. k) (o .1)),
           )
 
-  -- its conditions
-  read-conditions : {ns : List ℕ} → T (within (1 ∷ 2 ∷ 3 ∷ 4 ∷ []) ns) → ((t : Table) → Reads b t → Conditions ns (G t) (H t))
+  -- Its conditions exclude each other where the call's do.
+  pub read-conditions : {ns : List ℕ} → T (within (1 ∷ 2 ∷ 3 ∷ 4 ∷ []) ns) → ((t : Table) → Reads b t → Conditions ns (G t) (H t))
       → Conditions ns (AfterRead b G) (ReadAnd b H)
   read-conditions {ns} w c = record {
     apart = λ r e h.
@@ -166,16 +166,16 @@ module _ (b : List ℕ) {G : Table → Refusal → Type 0} {H : Table → Type 0
       one r s (inr e) (inr h) =
           c (e .0) (e .1) .one r s (e .2) (subst (λ (t : Table). G t s) (read-one b (h .1) (e .1)) (h .2))
 
--- what was read is a table value
-read-value : (b : List ℕ) {t : Table} → Reads b t → TableValue t
+-- What was read is a table value.
+pub read-value : (b : List ℕ) {t : Table} → Reads b t → TableValue t
 read-value b {t} e = let long = good-long (read-good Whole b t e .0) in record { cares = long .0; values = long .1 }
 
--- a table that was read passes its check
-read-passes : (b : List ℕ) {t : Table} → Reads b t → check-table t ≡ Accepted
+-- A table that was read passes its check.
+pub read-passes : (b : List ℕ) {t : Table} → Reads b t → check-table t ≡ Accepted
 read-passes b {t} e = good-passes t (read-good Whole b t e .0)
 
--- the check of a good table refuses nothing
-unrefused : {P : Type 0} (t : Table) {r : Refusal} → check-table t ≡ Accepted → check-table t ≡ Refused r → P
+-- A table that passes its check is not refused by it.
+pub unrefused : {P : Type 0} (t : Table) {r : Refusal} → check-table t ≡ Accepted → check-table t ≡ Refused r → P
 unrefused t e f = absurd (let z : _≡_ {A = ℕ} 0 1 = cc in omega arith)
 
 -- ---- The calls

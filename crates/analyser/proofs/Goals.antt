@@ -27,7 +27,6 @@ use Rattle.tables.specs.declared.Answer.{Answer}
 use Rattle.tables.specs.declared.Answer.the-variants.{Accepted, Refused}
 use Rattle.tables.specs.declared.Answered.{Answered}
 use Rattle.tables.specs.Values.{entries-of, accepts, refuses, check-table}
-use Rattle.tables.proofs.Checking.{good-long}
 use Rattle.sharing.specs.Calls.{convert-call, join-call, projection-call, change-side-call}
 use Rattle.sharing.specs.Outcomes.{TableValue, groups-of, Outcome, early, full, accepted}
 use Rattle.sharing.proofs.Demand2.{convert-outcome, join-outcome, projection-outcome, change-outcome}
@@ -37,9 +36,8 @@ use Rattle.questions.specs.declared.Reply.the-variants.{Yes, No}
 use Rattle.questions.specs.Replies.{replies, good-sets, equal-call, ground-call, independent-call}
 use Rattle.questions.specs.Replies as Replies
 use Rattle.questions.proofs.Exact.{equal-sides}
-use Rattle.forms.specs.declared.Extent.the-variants.{Whole, Front}
+use Rattle.forms.specs.declared.Extent.the-variants.{Front}
 use Rattle.forms.specs.Tables.{read-table}
-use Rattle.forms.proofs.Reading.{read-good}
 use Rattle.byte_calls.specs.Calls.{change-side-bytes, join-bytes, projection-bytes, equal-bytes, ground-bytes}
 use Rattle.byte_calls.specs.Calls.{independent-bytes}
 use Rattle.outputs.specs.Outputs.{put-answer, put-bytes}
@@ -47,6 +45,7 @@ use Rattle.analyser.specs.Goals.{Writes}
 use Rattle.analyser.specs.Demand2.{Reads}
 use Rattle.analyser.proofs.ByBytes.{change-side-by-bytes, projection-by-bytes, join-by-bytes, equal-by-bytes}
 use Rattle.analyser.proofs.ByBytes.{ground-by-bytes, independent-by-bytes}
+use Rattle.analyser.proofs.Demand2.{read-value}
 use Rattle.analyser.proofs.ReadsBack.{put-accepted, convert-reads, change-side-reads, join-reads}
 use Rattle.analyser.proofs.ReadsBack.{projection-reads}
 
@@ -214,10 +213,6 @@ module _ (l : ℕ) (ws : List ℕ) (w : Table) (θ : Bindings) where
       (λ d. same .1 (row .1 d), λ d. row .0 (same .0 d))
 
 -- ---- The calls on bytes
-
--- what the bytes read as is a table value
-read-value : (b : List ℕ) {t : Table} → Reads b t → TableValue t
-read-value b {t} e = let long = good-long (read-good Whole b t e .0) in record { cares = long .0; values = long .1 }
 
 -- A call whose written form reads back as its table has accepted with just the table that its output reads as.
 pub written-is : (a : Answered) (out : List ℕ) (w : Table)

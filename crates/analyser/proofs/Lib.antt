@@ -4,8 +4,10 @@ pub mod ByBytes
 pub mod ReadsBack
 pub mod HandedBack
 pub mod Demand2
+pub mod Asked
 pub mod Demand3
 pub mod Ends
+pub mod GoodStates
 pub mod OnEntries
 pub mod Example
 pub mod NegativeExample

@@ -1,5 +1,5 @@
--- Demand 2 of the exported calls that write a table (01, "Written form" and "Refusals"): which number each returns and where, the
--- groups of the table that it writes, and every byte of its output.
+-- Demand 2 of the exported calls (01, "Written form" and "Refusals"): which number each returns and where, the groups of the table
+-- that it writes, and every byte of its output; and of each question, the word.
 use mathlib.Core.Path.{_≡_}
 use mathlib.Core.Bool.{Bool, true, false}
 use mathlib.Core.List.{List, [], _∷_, _++_, map}
@@ -11,6 +11,8 @@ use Rattle.model.specs.Groups.{Listed, Joined, Projected}
 use Rattle.model.specs.Growth.{limit}
 use Rattle.model.specs.Terms.{Term}
 use Rattle.model.specs.Tables.{Side, positive, opposite, groups, kept}
+use Rattle.model.specs.Tokens.{named}
+use Rattle.model.specs.Questions.{Equal, Ground, Independent}
 use Rattle.model.specs.Equations.{After}
 use Rattle.words.specs.Words.{set}
 use Rattle.tables.specs.declared.Table.{Table}
@@ -24,10 +26,13 @@ use Rattle.terms.specs.Checks as C
 use Rattle.sharing.specs.Calls.{good-keep, convert-call}
 use Rattle.sharing.specs.Outcomes.{groups-of, Becomes, ConvertEarly, ConvertReady, ConvertNeeds, EquationNeeds, JoinNeeds}
 use Rattle.sharing.specs.Outcomes.{ProjectionNeeds, ChangeNeeds}
+use Rattle.questions.specs.declared.Reply.{Reply}
+use Rattle.questions.specs.Replies.{reply-number, reply-word, good-sets}
 use Rattle.forms.specs.declared.Extent.the-variants.{Whole, Front}
 use Rattle.forms.specs.Tables.{sized, first-size, second-size, table-length, fits, cares, values, written-entries, read-table}
 use Rattle.forms.specs.Tables.{table-form}
 use Rattle.byte_calls.specs.Calls.{check-bytes, tokens-of, change-side-bytes, equation-bytes, join-bytes, projection-bytes}
+use Rattle.byte_calls.specs.Calls.{equal-bytes, ground-bytes, independent-bytes}
 use Rattle.outputs.specs.Outputs.{put-number, put-bytes}
 
 -- ---- What is handed back
@@ -179,3 +184,37 @@ JoinExported side b c out =
     (λ q. JoinNeeds side (q .0) (q .2 .0))
     (λ q. Becomes side (q .0 .l) (Joined (groups-of side (q .0)) (groups-of side (q .2 .0))))
     (join-bytes side b c) out
+
+-- ---- Questions
+
+-- What an exported question returns, and the word afterwards. 0 exactly where the question is ready; then the word is 1 exactly
+-- where the statement over groups holds, and 0 exactly where it does not. A number of ns exactly in its condition. No other number,
+-- so that none meets 8; and but for 0 the word is what it was.
+pub record Asked (ns : List ℕ) (Early : Refusal → Type 0) (Ready : Type 0) (Statement : Ready → Type 0) (q : Reply) (word : ℕ) :
+    Type 0 where
+  pub zero-where : (reply-number q ≡ 0) ↔ Ready
+  pub yes-where : (ready : Ready) → (reply-word q word ≡ 1) ↔ Statement ready
+  pub no-where : (ready : Ready) → (reply-word q word ≡ 0) ↔ ¬ (Statement ready)
+  pub early-where : (r : Refusal) → T (one-of ns r) → (reply-number q ≡ refusal-number r) ↔ Early r
+  pub no-other : T (member (reply-number q) (0 ∷ ns))
+  pub unwritten : ¬ (reply-number q ≡ 0) → reply-word q word ≡ word
+
+-- `sharing_equal`, of tables of either side.
+abbrev pub EqualAsked : Side → List ℕ → List ℕ → ℕ → Type 0
+EqualAsked side b c word =
+    Asked (1 ∷ 2 ∷ 3 ∷ 4 ∷ 10 ∷ []) (AfterRead b (SecondEarly c)) (ReadAnd b (SecondReady c))
+    (λ q. Equal (groups-of side (q .0)) (groups-of side (q .2 .0))) (equal-bytes b c) word
+
+-- `sharing_ground`: 5 for a variable not 1 to l.
+abbrev pub GroundAsked : Side → List ℕ → ℕ → ℕ → Type 0
+GroundAsked side b x word =
+    Asked (1 ∷ 2 ∷ 3 ∷ 4 ∷ 5 ∷ []) (AfterRead b (λ t. Fails (named (t .l) x) R.Name)) (ReadAnd b (λ t. named (t .l) x ≡ true))
+    (λ q. Ground (groups-of side (q .0)) x) (ground-bytes side b x) word
+
+-- `sharing_independent`: 5 for a bit above l in either set.
+abbrev pub IndependentAsked : Side → List ℕ → ℕ → ℕ → ℕ → Type 0
+IndependentAsked side b first second word =
+    Asked (1 ∷ 2 ∷ 3 ∷ 4 ∷ 5 ∷ []) (AfterRead b (λ t. Fails (good-sets (t .l) first second) R.Name))
+    (ReadAnd b (λ t. good-sets (t .l) first second ≡ true))
+    (λ q. Independent (groups-of side (q .0)) (set (q .0 .l) first) (set (q .0 .l) second)) (independent-bytes side b first second)
+    word
