@@ -61,9 +61,9 @@ $(PROGRAM): $(CRATES)
 	@rt check sharerun | grep '^rt:'
 	@touch $@
 
-target/tools/sharetext: tools/sharetext.c include/sharing.h $(ARCHIVE)
+target/tools/sharetext: $(wildcard tools/*.c tools/*.h include/*.h) $(ARCHIVE)
 	@mkdir -p $(@D)
-	@cc -std=c99 -O2 -Wall -Wextra -Iinclude $< $(ARCHIVE) -o $@
+	@cc -std=c99 -O2 -Wall -Wextra -Iinclude $(filter %.c,$^) $(ARCHIVE) -o $@
 
 examples: library
 	@tests/c

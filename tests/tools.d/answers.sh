@@ -1,0 +1,202 @@
+# shellcheck shell=bash disable=SC2154 # the names are those of tests/tools
+# What is said of variables in no group, the answers at each point, goals, and full equations.
+
+# ---- Variables in no group
+
+# Of the file, after "$@": status $1, lines $2, message $3.
+asked() {
+    local due=$1 lines=$2 said=$3
+    shift 3
+    run "$@"
+    ended "$*" "$due" "$lines" "$said"
+}
+
+in_no_group() {
+    local told="$file: B is in no group: it counts as known" known="B is in no group at the start: it counts as known"
+    printf 'vars A B C\n1*0\n' >"$file"
+    asked 1 "A and B: may not run side by side before the first equation (they may share a variable; C is in no group at the start: it counts as known)" \
+        "$file: C is in no group: it counts as known" apart "$file" A B
+    # A variable that stands at 0 everywhere is in none; one that stands at 1 or * in some entry is in one.
+    for text in 'vars A B C\n100\n001\n' 'vars A B C\nfree C A\n' 'vars A B C\n000\n*0*\n'; do
+        printf '%b' "$text" >"$file"
+        run input "$file"
+        same "message of $text" "$told" "$(<"$err")"
+    done
+    for text in 'vars A B C\nfree' 'vars A B C\n***' 'vars A B C\nfree A,C\n0*0' 'vars A B C\n110\nfree C'; do
+        printf '%b' "$text" >"$file"
+        run input "$file"
+        same "message of $text" "" "$(<"$err")"
+    done
+    # The forgotten entry of B makes A and C known too: each answer says on what it rests.
+    printf 'vars A B C\nfree A, C\nA = f(B)\nC = f(B)\n' >"$file"
+    asked 0 "A and B: may run side by side before the first equation ($known)" "$told" apart "$file" A B --after 0
+    asked 0 "A and C: may run side by side after equation 2, C = f(B) ($known)" "$told" apart "$file" A C
+    asked 0 "A and B: may run side by side after equation 1, A = f(B) ($known)
+A and C: may run side by side after equation 1, A = f(B) ($known)
+B and C: may run side by side after equation 1, A = f(B) ($known)" "$told" pairs "$file" --after 1
+    asked 0 "Table before the first equation ($known):
+    100  A
+    001  C
+    known: B
+Table after equation 1, A = f(B) ($known):
+    001  C
+    known: A, B
+Table after equation 2, C = f(B) ($known):
+    no entry
+    known: A, B, C" "$told" tables "$file"
+    asked 0 "$("$program" tables "$file" 2>"$scratch/ignored")" "standard input: B is in no group: it counts as known" tables -
+    # With it, neither is said.
+    sed -i 's/free.*/free/' "$file"
+    asked 1 "A and C: may not run side by side after equation 2, C = f(B) (they may share a variable)" "" apart "$file" A C
+    printf 'vars 3\nX1 = _' >"$file"
+    asked 0 "X1 and X2: may run side by side after equation 1, X1 = _ (X1, X2, X3 are in no group at the start: they count as known)" \
+        "$(for i in 1 2 3; do echo "$file: X$i is in no group: it counts as known"; done)" apart "$file" X1 X2
+}
+
+# ---- Answers
+
+no="may not run side by side" yes="may run side by side" shared="(they may share a variable)"
+
+points() {
+    local at=("before the first equation" "after equation 1, Baptism = f(Wedding)" "after equation 2, Parish = a")
+    cp examples/parish.txt "$file"
+    asked 0 "Baptism and Wedding: $yes ${at[0]}" "" apart "$file" Baptism Wedding --after 0
+    asked 1 "Baptism and Wedding: $no ${at[1]} $shared" "" apart "$file" Baptism Wedding --after 1
+    asked 1 "Baptism and Parish: $no ${at[1]} $shared" "" apart --after 1 "$file" Baptism Parish
+    asked 0 "Baptism and Parish: $yes ${at[2]}" "" apart "$file" Baptism --after 2 Parish
+    asked 0 "Baptism and Parish: $yes ${at[2]}" "" apart "$file" Baptism Parish
+    asked 0 "Baptism and Wedding: $yes ${at[0]}
+Baptism and Parish: $yes ${at[0]}
+Wedding and Parish: $no ${at[0]} $shared" "" pairs "$file" --after 0
+    asked 0 "Baptism and Wedding: $no ${at[1]} $shared
+Baptism and Parish: $no ${at[1]} $shared
+Wedding and Parish: $no ${at[1]} $shared" "" pairs "$file" --after 1
+    asked 0 "Baptism and Wedding: $no ${at[2]} $shared
+Baptism and Parish: $yes ${at[2]}
+Wedding and Parish: $yes ${at[2]}" "" pairs "$file"
+    asked 0 "$(<"$out")" "" pairs "$file" --after 02
+    asked 0 "$(<"$out")" "" pairs - --after 2
+    asked 0 "Table ${at[0]}:
+    100  Baptism
+    01*  Wedding, perhaps with Parish
+    0*1  Parish, perhaps with Wedding
+Table ${at[1]}:
+    001  Parish
+    11*  Baptism, Wedding, perhaps with Parish
+Table ${at[2]}:
+    110  Baptism, Wedding
+    known: Parish" "" tables "$file"
+    for point in 3 65 4294967298 -1 x 1x "" " 1" 1.0; do
+        for command in pairs apart; do
+            goals=()
+            [[ $command == pairs ]] || goals=(Baptism -)
+            asked 2 "" "sharetext: --after $point is no point of $file.
+    Expected: a number from 0 to 2, how many of the equations have been applied." "$command" "$file" "${goals[@]}" --after "$point"
+        done
+    done
+    # An answer quotes the equation without blanks around it, its full stop and its comment.
+    printf 'vars 2\nfree\n \tX1  = f(X2, _) .  %% b\n' >"$file"
+    asked 1 "X1 and X2: $no after equation 1, X1  = f(X2, _) $shared" "" apart "$file" X1 X2
+    printf 'vars 2\n**\n_ = X1' >"$file"
+    asked 0 "Table before the first equation:
+    **0  any of X1, X2
+    001  _
+Table after equation 1, _ = X1:
+    0*0  X2
+    1*1  X1, _, perhaps with X2" "" tables "$file"
+    printf 'vars Ab\nfree' >"$file"
+    asked 0 "" "$file: There is one variable, and so no pair." pairs "$file"
+}
+
+goals() {
+    local now="before the first equation"
+    printf 'vars 3\n100\n01*\n0*1\n' >"$file"
+    asked 0 "X1 and X2: $yes $now" "" apart "$file" X1 X2
+    asked 1 "X2 and X3: $no $now $shared" "" apart "$file" X2 X3
+    asked 0 "X1 and X2,X3: $yes $now" "" apart "$file" X1 X2,X3
+    asked 1 "X2,X1 and X3: $no $now $shared" "" apart "$file" X2,X1 X3
+    asked 1 " X2 , X1 and X3: $no $now $shared" "" apart "$file" " X2 , X1" X3
+    asked 1 "X1,X1 and X1: $no $now $shared" "" apart "$file" X1,X1 X1
+    asked 0 "no variable and X1,X2,X3: $yes $now" "" apart "$file" - X1,X2,X3
+    asked 0 "X1 and no variable: $yes $now" "" apart "$file" X1 -
+    asked 1 "X2 and X3: $no $now $shared" "" apart - X2 X3
+    cp examples/parish.txt "$file"
+    now="after equation 2, Parish = a"
+    asked 0 "Baptism,Wedding and Parish: $yes $now" "" apart "$file" Baptism,Wedding Parish
+    asked 1 "Parish,Baptism and Parish,Wedding: $no $now $shared" "" apart "$file" Parish,Baptism Parish,Wedding
+    asked 0 "Parish and Parish: $yes $now" "" apart "$file" Parish Parish
+}
+
+# The goal $1 is wrong at column $2, in $3 characters, as $4 says, where $5 is expected; first or second.
+wrong_goal() {
+    local said
+    said="column $2: $4
+    $1
+    $(times $(($2 - 1)) ' ')$(times "$3" ^)
+    Expected: $5."
+    asked 2 "" "sharetext: goal 1, $said" apart "$file" "$1" Wedding
+    asked 2 "" "sharetext: goal 2, $said" apart "$file" - "$1" --after 1
+}
+
+wrong_goals() {
+    local one="Baptism, Wedding or Parish, with commas between them, or - for no variable"
+    local more="a comma and a further variable, or the end of the goal"
+    local unknown="is not one of the variables of line 6 of $file."
+    cp examples/parish.txt "$file"
+    wrong_goal X1 1 2 "X1 $unknown" "$one"
+    wrong_goal Baptism,Weding 9 6 "Weding $unknown" "$one"
+    wrong_goal "Parish, _" 9 1 "_ $unknown" "$one"
+    wrong_goal "" 1 1 "The goal ends too early." "$one"
+    wrong_goal "Parish," 8 1 "The goal ends too early." "$one"
+    wrong_goal ",Parish" 1 1 "',' cannot stand here." "$one"
+    wrong_goal "Parish,,Wedding" 8 1 "',' cannot stand here." "$one"
+    wrong_goal parish 1 6 "'parish' cannot stand here." "$one"
+    wrong_goal "Parish,-" 8 1 "'-' cannot stand here." "$one"
+    wrong_goal "Parish Wedding" 8 7 "'Wedding' cannot stand here." "$more"
+    wrong_goal "Parish#" 7 1 "'#' cannot stand here." "$more"
+    wrong_goal "Parish;Wedding" 7 1 "';' cannot stand here." "$more"
+    # The file comes first: without it no goal can be read.
+    printf 'vars 3\n\nX1 = f(\n' >"$file"
+    run apart "$file" Y Z
+    same "apart of a wrong file" "2 $file:3:8: $early" "$status $(head -n 1 "$err")"
+}
+
+# ---- Full equations
+
+# X1 to X16 each stand alone. X1 = X1 leaves that so; X1 with any of X2 to X15 would be more than 256 groups.
+full_file() { printf 'vars 16\nfree\nX1 = X1\n\n X1 = f(%s). %% full\nX1 = a\n' "$(lines 15 'X&' | paste -sd,)"; }
+
+full() {
+    local equation said
+    equation="X1 = f($(lines 15 'X&' | paste -sd,))"
+    full_file >"$file"
+    said="$file:5:2: Equation 2 is full: it needs a table of more than 256 entries.
+     $equation. % full
+     $(times ${#equation} ^)
+    No answer can be given for a point after it. What is safe to go on with there is
+    the all-star table, where every variable may share with every other: $(times 16 '*')
+    Before it answers are given (--after 1), from what was known after equation 1, X1 = X1:
+$(for i in {2..16} 1; do echo "    $(times $((i - 1)) 0)1$(times $((16 - i)) 0)  X$i"; done)"
+    asked 2 "" "$said" apart "$file" X1 X2
+    asked 2 "" "$said" apart "$file" X1 X2 --after 2
+    asked 2 "" "$said" apart "$file" - - --after 3
+    asked 2 "" "$said" pairs "$file"
+    asked 0 "X1 and X2: $yes after equation 1, X1 = X1" "" apart "$file" X1 X2 --after 1
+    asked 1 "X1 and X1: $no before the first equation $shared" "" apart "$file" X1 X1 --after 0
+    run pairs "$file" --after 1
+    same "pairs before a full equation" "0 120 " "$status $(grep -c "$yes after equation 1, X1 = X1\$" "$out") $(<"$err")"
+    run tables "$file"
+    same "tables of a full file" "2 $said" "$status $(<"$err")"
+    same "the points in tables of a full file" "Table before the first equation:|Table after equation 1, X1 = X1:" \
+        "$(grep ^Table "$out" | paste -sd '|')"
+    # The words are those of the file, and sharerun says where it is full.
+    run input "$file"
+    same "status of input of a full file" "0" "$status$(<"$err")"
+    sharerun_ends "eq 2 refused 8"
+    # Full at once, with a variable in no group.
+    sed -i '/^X1 = X1$/d; s/^free/free X1,X2,X3,X4,X5,X6,X7,X8,X9,X10,X11,X12,X13,X14,X15/' "$file"
+    run pairs "$file"
+    same "a file that is full at once" "2  $file: X16 is in no group: it counts as known" "$status $(<"$out") $(head -n 1 "$err")"
+    same "what was known before" "    Before it answers are given (--after 0), from what was known before the first equation:" "$(sed -n 7p "$err")"
+    same "what was known before" "    known: X16" "$(tail -n 1 "$err")"
+}

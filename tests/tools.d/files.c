@@ -1,0 +1,431 @@
+/*
+ * Random readable files for tests/tools, and what sharetext must make of them by plain sets of
+ * groups: no code of the tool or of the library is used.
+ *
+ *     files FOLDER COUNT SEED
+ *
+ * writes for each K from 0: K.txt a good file; K.words what `input` writes; K.after.N what `pairs`
+ * prints after N equations, for each N; and K.bad, the file with a few bytes changed.
+ */
+#include <stdarg.h>
+#include <stdbool.h>
+#include <stdint.h>
+#include <stdio.h>
+#include <stdlib.h>
+#include <string.h>
+
+/* With six positions no table has more than 240 entries of which none covers another. */
+enum { NAMED = 4, UNNAMED = 2, GROUPS = 1 << (NAMED + UNNAMED), EQUATIONS = 4, ROOM = 20000 };
+
+typedef struct { char text[200]; uint32_t left, right; unsigned variable; size_t tokens; } equation;
+
+static struct {
+    char text[ROOM];
+    size_t len;
+    unsigned named, width;
+    const char *name[NAMED];
+    unsigned entries, care[30], value[30];
+    unsigned equations;
+    equation equation[EQUATIONS];
+    unsigned token[500];
+    size_t tokens;
+    const char *symbol[20];
+    unsigned symbols;
+    const char *line_end;
+} file;
+
+static uint32_t state;
+
+/* A random number below `most`. */
+static unsigned below(unsigned most) {
+    state = state * 1664525u + 1013904223u;
+    return (unsigned)((uint64_t)(state >> 8) * most >> 24);
+}
+
+/* Writes to the text of the file. */
+static void put(const char *format, ...) {
+    va_list values;
+    va_start(values, format);
+    file.len += (size_t)vsnprintf(file.text + file.len, ROOM - file.len, format, values);
+    va_end(values);
+}
+
+/* Blanks, now and then. */
+static void put_blank(void) { put("%s", below(4) == 0 ? (below(2) ? " " : "\t ") : ""); }
+
+/* The end of a line, perhaps with a comment before it and a line that counts for nothing after. */
+static void put_end(void) {
+    static const char *const comments[] = {"", "", "", " % X1 = f(", "# 100 'a", "\t%%\xff\xfe"};
+    put("%s%s", comments[below(6)], file.line_end);
+    if (below(8) == 0)
+        put("%s%s", below(2) ? "  " : "  # vars 3", file.line_end);
+}
+
+/* ---- Lines */
+
+/* The line vars, by number or by names. */
+static void make_vars(void) {
+    static const char *const numbered[] = {"X1", "X2", "X3", "X4"};
+    static const char *const names[] = {"Baptism", "W", "_Parish", "X2", "O", "B_9"};
+    bool by_name = below(2);
+    unsigned start = below(6);
+    file.named = file.width = 1 + below(NAMED);
+    for (unsigned i = 0; i < file.named; i++)
+        file.name[i] = by_name ? names[(start + i) % 6] : numbered[i];
+    put("vars");
+    if (!by_name)
+        put(" %u", file.named);
+    for (unsigned i = 0; by_name && i < file.named; i++)
+        put("%s%s", i == 0 ? " " : below(2) ? ", " : "  ", file.name[i]);
+    put_end();
+}
+
+/* One more entry, as the words have it. */
+static void add_entry(unsigned care, unsigned value) {
+    file.care[file.entries] = care;
+    file.value[file.entries++] = value;
+}
+
+/* A line free, with some variables or with none for all. */
+static void make_free(void) {
+    bool all = below(2), some = false;
+    put("free");
+    for (unsigned i = 0; i < file.named; i++)
+        if (all || below(2)) {
+            if (!all)
+                put("%s%s", !some ? " " : below(2) ? " , " : " ", file.name[i]);
+            add_entry((1u << file.named) - 1, 1u << i);
+            some = true;
+        }
+    /* The bare word is for all of them. */
+    for (unsigned i = 0; !some && i < file.named; i++)
+        add_entry((1u << file.named) - 1, 1u << i);
+    put_end();
+}
+
+/* A random entry. */
+static void make_entry(void) {
+    unsigned care = 0, value = 0;
+    put_blank();
+    for (unsigned i = 0; i < file.named; i++) {
+        unsigned kind = below(3);
+        care |= (unsigned)(kind < 2) << i;
+        value |= (unsigned)(kind == 1) << i;
+        put("%c", "01*"[kind]);
+    }
+    add_entry(care, value);
+    put_end();
+}
+
+/* ---- Terms */
+
+/* A head; a symbol has the number of its first appearance. */
+static void add_head(const char *symbol, unsigned arity) {
+    unsigned i = 0;
+    while (i < file.symbols && strcmp(file.symbol[i], symbol) != 0)
+        i++;
+    file.symbol[i] = symbol;
+    file.symbols += i == file.symbols;
+    file.token[file.tokens++] = 0x8000 + 16 * (i + 1) + arity;
+}
+
+/* A variable; its number is returned, and its token not yet written. */
+static unsigned make_variable(void) {
+    unsigned number = 1 + below(file.named);
+    if (file.width < file.named + UNNAMED && below(6) == 0) {
+        put("_");
+        return ++file.width;
+    }
+    put("%s", file.name[number - 1]);
+    return number;
+}
+
+/* A symbol, in one of the ways of writing it. Equal names in column 0 are equal symbols. */
+static const char *make_symbol(unsigned ways) {
+    static const char *const written[][2] = {
+        {"a", "a"}, {"a", "'a'"}, {"f", "f"}, {"fX_1", "fX_1"}, {"it's", "'it''s'"},
+        {"it's", "'it\\'s'"}, {"A % b", "'A % b'"}, {"\\", "'\\\\'"}, {"", "''"},
+        {"\xc3\x89", "'\xc3\x89'"}, {"[]", "'[]'"}, {".", "'.'"}, {"free", "free"},
+        /* numbers, which differ from atoms of the same text */
+        {"number 1", "1"}, {"number -3", "-3"}, {"number 2.5", "2.5"}, {"1", "'1'"},
+        {"number 1.0e-6", "1.0e-6"}};
+    const char *const *way = written[below(ways)];
+    put("%s", way[1]);
+    return way[0];
+}
+
+enum { ATOMS = 13, CONSTANTS = 18 };
+
+static uint32_t make_term(unsigned depth);
+
+/* A list of one or two elements, with a tail or without: cells '.' and at its end '[]'. */
+static uint32_t make_list(unsigned depth) {
+    unsigned elements = 1 + below(2);
+    uint32_t variables = 0;
+    put("[");
+    for (unsigned i = 0; i < elements; i++) {
+        add_head(".", 2);
+        put(i == 0 ? "" : ",");
+        variables |= make_term(depth - 1);
+    }
+    if (below(2)) {
+        put("|");
+        variables |= make_term(depth - 1);
+    } else
+        add_head("[]", 0);
+    put("]");
+    return variables;
+}
+
+/* Symbols with arguments; the head stands before its arguments, and its arity is known by then. */
+static uint32_t make_compound(unsigned depth) {
+    unsigned arguments = 1 + below(3);
+    uint32_t variables = 0;
+    add_head(make_symbol(ATOMS), arguments);
+    put("(");
+    for (unsigned i = 0; i < arguments; i++) {
+        put(i == 0 ? "" : ",");
+        variables |= make_term(depth - 1);
+    }
+    put(")");
+    return variables;
+}
+
+/* A term, and the set of its variables: bit i - 1 for the ith. */
+static uint32_t make_term(unsigned depth) {
+    uint32_t variables = 0;
+    unsigned kind = below(depth == 0 ? 4 : 8);
+    put_blank();
+    if (kind < 2) {
+        unsigned number = make_variable();
+        file.token[file.tokens++] = number;
+        variables = 1u << (number - 1);
+    } else if (kind == 2)
+        add_head(make_symbol(CONSTANTS), 0);
+    else if (kind == 3) {
+        put("[]");
+        add_head("[]", 0);
+    } else
+        variables = kind < 7 ? make_compound(depth) : make_list(depth);
+    put_blank();
+    return variables;
+}
+
+/* A random equation, one in three with its variable on the right. */
+static void make_equation(void) {
+    equation *e = &file.equation[file.equations++];
+    size_t before = file.tokens, start, end;
+    put_blank();
+    start = file.len;
+    if (below(3) == 0) {
+        e->right = make_compound(1);
+        put_blank();
+        put("=");
+        put_blank();
+        e->variable = make_variable();
+    } else {
+        e->variable = make_variable();
+        put(below(2) ? " = " : "= ");
+        e->right = make_term(2);
+    }
+    e->left = 1u << (e->variable - 1);
+    e->tokens = file.tokens - before;
+    for (end = file.len; file.text[end - 1] == ' ' || file.text[end - 1] == '\t';)
+        end--;
+    memcpy(e->text, file.text + start, end - start);
+    e->text[end - start] = '\0';
+    put(below(2) ? "." : " . ");
+    put_end();
+}
+
+/* A good file. The first line stands after a byte order mark now and then. */
+static void make_file(void) {
+    unsigned lines = below(4), equations = below(EQUATIONS + 1);
+    memset(&file, 0, sizeof file);
+    file.line_end = below(5) == 0 ? "\r\n" : "\n";
+    put("%s", below(5) == 0 ? "\xef\xbb\xbf" : "");
+    make_vars();
+    for (unsigned i = 0; i < lines; i++) {
+        if (below(3) == 0)
+            make_free();
+        else
+            make_entry();
+    }
+    for (unsigned i = 0; i < equations; i++)
+        make_equation();
+    for (unsigned i = file.named; i < file.width; i++)
+        add_entry((1u << file.named) - 1, 1u << i);
+}
+
+/* ---- What must come of it */
+
+/* Opens a file of the folder for writing. */
+static FILE *open_result(const char *folder, unsigned number, const char *kind) {
+    char path[1000];
+    FILE *to;
+    snprintf(path, sizeof path, "%s/%u.%s", folder, number, kind);
+    to = fopen(path, "wb");
+    if (to == NULL) {
+        perror(path);
+        exit(1);
+    }
+    return to;
+}
+
+/* A 16-bit number, low byte first. */
+static void put_word(FILE *to, size_t word) {
+    fputc((int)(word & 0xff), to);
+    fputc((int)(word >> 8), to);
+}
+
+/* What `input` writes of the file. */
+static void write_words(FILE *to) {
+    unsigned unnamed = (1u << file.width) - (1u << file.named);
+    put_word(to, file.width);
+    put_word(to, file.entries);
+    for (unsigned i = 0; i < file.entries; i++)
+        put_word(to, file.care[i] | unnamed);
+    for (unsigned i = 0; i < file.entries; i++)
+        put_word(to, file.value[i]);
+    put_word(to, file.equations);
+    put_word(to, file.tokens);
+    for (unsigned i = 0; i < file.equations; i++)
+        put_word(to, file.equation[i].variable);
+    for (unsigned i = 0; i < file.equations; i++)
+        put_word(to, file.equation[i].tokens);
+    for (size_t i = 0; i < file.tokens; i++)
+        put_word(to, file.token[i]);
+}
+
+/* A set of groups; a group is a set of variables. */
+typedef struct { bool has[GROUPS]; } groups;
+
+/* The groups of the entries. */
+static groups start_groups(void) {
+    unsigned unnamed = (1u << file.width) - (1u << file.named);
+    groups all = {{false}};
+    for (unsigned g = 1; g < 1u << file.width; g++)
+        for (unsigned i = 0; i < file.entries; i++)
+            all.has[g] |= (g & (file.care[i] | unnamed)) == file.value[i];
+    return all;
+}
+
+/* One round of the closure: is there a further group that is the union of two? */
+static bool close_once(groups *all) {
+    bool more = false;
+    for (unsigned g = 1; g < GROUPS; g++)
+        for (unsigned h = 1; all->has[g] && h < g; h++)
+            if (all->has[h] && !all->has[g | h])
+                more = all->has[g | h] = true;
+    return more;
+}
+
+/* The groups after x = t, by the definition of Jacobs and Langen. */
+static groups after_equation(groups before, const equation *e) {
+    groups joined = {{false}};
+    for (unsigned g = 1; g < GROUPS; g++)
+        for (unsigned h = 1; h < GROUPS; h++)
+            if (before.has[g] && before.has[h] && (g & e->left) != 0 && (h & e->right) != 0)
+                joined.has[g | h] = true;
+    while (close_once(&joined)) {
+    }
+    for (unsigned g = 1; g < GROUPS; g++)
+        if (before.has[g] && (g & (e->left | e->right)) == 0)
+            joined.has[g] = true;
+    return joined;
+}
+
+/* Is there a group that has a variable of each set? */
+static bool meets(const groups *all, uint32_t first, uint32_t second) {
+    for (unsigned g = 1; g < GROUPS; g++)
+        if (all->has[g] && (g & first) != 0 && (g & second) != 0)
+            return true;
+    return false;
+}
+
+/* What is said of the variables that are in no group at the start. */
+static void write_absent(FILE *to, const groups *start) {
+    unsigned absent = 0;
+    for (unsigned i = 0; i < file.named; i++)
+        if (!meets(start, 1u << i, 1u << i))
+            fprintf(to, "%s%s", absent++ > 0 ? ", " : "", file.name[i]);
+    if (absent > 0)
+        fputs(absent == 1 ? " is in no group at the start: it counts as known"
+                          : " are in no group at the start: they count as known", to);
+}
+
+static void write_pair(FILE *to, const groups *now, const groups *start, unsigned after,
+                       const unsigned pair[2]) {
+    bool no = meets(now, 1u << pair[0], 1u << pair[1]);
+    bool absent = false;
+    for (unsigned i = 0; i < file.named; i++)
+        absent |= !meets(start, 1u << i, 1u << i);
+    fprintf(to, "%s and %s: may %srun side by side ", file.name[pair[0]], file.name[pair[1]],
+            no ? "not " : "");
+    if (after == 0)
+        fputs("before the first equation", to);
+    else
+        fprintf(to, "after equation %u, %s", after, file.equation[after - 1].text);
+    if (no || absent)
+        fputs(no && absent ? " (they may share a variable; "
+                           : no ? " (they may share a variable" : " (", to);
+    write_absent(to, start);
+    fputs(no || absent ? ")\n" : "\n", to);
+}
+
+/* What `pairs` prints at each point. */
+static void write_points(const char *folder, unsigned number) {
+    groups start = start_groups(), now = start;
+    for (unsigned after = 0; after <= file.equations; after++) {
+        char kind[20];
+        FILE *to;
+        snprintf(kind, sizeof kind, "after.%u", after);
+        to = open_result(folder, number, kind);
+        if (after > 0)
+            now = after_equation(now, &file.equation[after - 1]);
+        for (unsigned i = 0; i < file.named; i++)
+            for (unsigned j = i + 1; j < file.named; j++)
+                write_pair(to, &now, &start, after, (unsigned[]){i, j});
+        fclose(to);
+    }
+}
+
+/* The file with one to three places changed. */
+static void write_bad(FILE *to) {
+    static const char signs[] = "X10*O_(),=.'[]|%# \t\n\r-+af\\\xff\x01";
+    for (unsigned changes = 1 + below(3); changes > 0; changes--) {
+        size_t at = below((unsigned)file.len), kind = below(3), rest = file.len - at;
+        if (kind == 0)
+            file.text[at] = signs[below(sizeof signs)];
+        else if (kind == 1) {
+            memmove(file.text + at + 1, file.text + at, rest);
+            file.text[at] = signs[below(sizeof signs)];
+            file.len++;
+        } else {
+            memmove(file.text + at, file.text + at + 1, rest - 1);
+            file.len--;
+        }
+    }
+    fwrite(file.text, 1, file.len, to);
+}
+
+/* All files. */
+int main(int argc, char **argv) {
+    unsigned count = argc == 4 ? (unsigned)atoi(argv[2]) : 0;
+    state = argc == 4 ? (uint32_t)atoi(argv[3]) : 0;
+    for (unsigned number = 0; number < count; number++) {
+        FILE *good, *words, *bad;
+        make_file();
+        good = open_result(argv[1], number, "txt");
+        words = open_result(argv[1], number, "words");
+        bad = open_result(argv[1], number, "bad");
+        fwrite(file.text, 1, file.len, good);
+        write_words(words);
+        write_points(argv[1], number);
+        write_bad(bad);
+        fclose(good);
+        fclose(words);
+        fclose(bad);
+    }
+    return count > 0 ? 0 : 1;
+}

@@ -1,0 +1,91 @@
+# shellcheck shell=bash disable=SC2154 # the names are those of tests/tools
+# Random files and bytes.
+
+# ---- Random files
+
+# A sanitizer that is not in force would find nothing: program $1, with a fault of its kind, must end by its report.
+reports() {
+    gcc "${sanitize[@]}" -include stdlib.h -x c - -o "$built/probe" <<<"$1"
+    status=0
+    "$built/probe" 2>"$err" || status=$?
+    same "the sanitizers on $1" 99 "$status"
+}
+
+# File $1 of the folder gives its words, and after each equation the answers of the plain sets of groups.
+good_file() {
+    local point
+    file=$folder/$1.txt
+    run input "$file"
+    same "words of $file" "0 " "$status $(cmp "$folder/$1.words" "$out" 2>&1)"
+    for point in "$folder/$1".after.*; do
+        run pairs "$file" --after "${point##*.}"
+        same "answers of $file after ${point##*.}" "0 " "$status $(cmp "$point" "$out" 2>&1)"
+        answers=$((answers + 1))
+        [[ $(<"$out") != *"may not"* ]] || refusing=$((refusing + 1))
+    done
+}
+
+# The last run, of a changed file, had no output, the status 2 and a message with a place that is in the file.
+told_place() {
+    local said whole line column
+    mapfile -t said <"$err"
+    mapfile -t whole <"$file"
+    same "status of $1" 2 "$status"
+    [[ ! -s $out ]] || same "output of $1" "" "$(<"$out")"
+    [[ ${said[0]} =~ ^$file:([1-9][0-9]*):([1-9][0-9]*):\ .*\.$ ]] || same "the message of $1" "with a place" "${said[0]}"
+    line=${BASH_REMATCH[1]} column=${BASH_REMATCH[2]}
+    same "the place ${said[0]}" 1 $((line <= ${#whole[@]} && column <= ${#whole[line - 1]} + 1))
+    [[ ${said[2]} =~ ^\ {4}[[:blank:]]*\^+$ && ${said[3]} =~ ^\ {4}Expected:\ .*\.$ ]] || same "the message of $1" "its four lines" "${said[*]}"
+}
+
+# A changed file is either taken, and then sharerun takes its words too, or told with its place; then no command answers.
+bad_file() {
+    local LC_ALL=C
+    file=$folder/$1.bad
+    run input "$file"
+    if ((status == 0)); then
+        taken=$((taken + 1))
+        same "what sharerun says of the words of $file" "" "$("$sharerun" <"$out" | grep refused || true)"
+        run tables "$file"
+        same "status of tables of $file" 0 "$status"
+        return
+    fi
+    told=$((told + 1))
+    told_place "input $file"
+    for command in pairs tables; do
+        run "$command" "$file"
+        told_place "$command $file"
+    done
+    run apart "$file" - -
+    told_place "apart $file"
+}
+
+random_files() {
+    local folder=$scratch/random i answers=0 refusing=0 taken=0 told=0
+    mkdir -p "$folder"
+    gcc "${strict[@]}" "${sanitize[@]}" tests/tools.d/files.c -o "$built/files"
+    "$built/files" "$folder" 60 "$1"
+    for ((i = 0; i < 60; i++)); do
+        good_file "$i"
+        bad_file "$i"
+    done
+    file=$scratch/file
+    # Files of each kind were among them.
+    same "random answers, with some no, and changed files taken and told: $answers $refusing $taken $told" 1 \
+        $((answers > 120 && refusing > 30 && taken > 8 && told > 30))
+}
+
+# Bytes of any kind: the program must end by itself, with no report of a sanitizer, and say something.
+random_bytes() {
+    local i
+    for ((i = 0; i < 40; i++)); do
+        { ((i % 2)) || printf 'vars 3\n'; head -c $((i * 3)) <(any_bytes "$i"); } >"$file"
+        run pairs "$file"
+        same "status of random bytes $i: $(tail -n 3 "$err")" 1 $((status == 0 || status == 2))
+        run explain
+        same "status of explain of random bytes $i" 1 $((status < 2))
+    done
+}
+
+# Bytes from a generator of its own, the same ones each time.
+any_bytes() { LC_ALL=C awk -v seed="$1" 'BEGIN { srand(seed); for (i = 0; i < 200; i++) printf "%c", int(rand() * 256) }'; }

@@ -1,0 +1,293 @@
+/* What the library answers of a readable file, in words. Nothing of it is worked out here. */
+#include "answers.h"
+
+#include <string.h>
+
+/* A point of a file: the table after its first equations, `after` in number. */
+typedef struct {
+    const rules *given;
+    size_t after;
+    size_t len;
+    uint8_t form[SHARING_MAX_FORM];
+} point;
+
+/* Output that did not arrive is an error, whatever the answer was. */
+int finish(int status) {
+    if (fflush(stdout) == 0 && !ferror(stdout))
+        return status;
+    fprintf(stderr, "sharetext: The output cannot be written.\n");
+    return STATUS_WRONG;
+}
+
+/* The reader lets nothing by that the library refuses. Should it do so, no answer is given. */
+static bool accepted(const rules *given, uint32_t code) {
+    if (code == SHARING_ACCEPTED)
+        return true;
+    fprintf(stderr, "%s: refused %u\n", given->name, (unsigned)code);
+    explain_number(stderr, code);
+    return false;
+}
+
+/* ---- Variables */
+
+/* Is the variable known at this point: does no group have it? */
+static bool is_ground(const point *at, uint32_t variable) {
+    uint32_t answer = 0;
+    uint32_t code = sharing_ground(SHARING_POSITIVE, at->form, at->len, variable, &answer);
+    return accepted(at->given, code) && answer != 0;
+}
+
+/* Writes the names of the variables of a set, with a comma between two. */
+static void put_variables(FILE *to, const rules *given, uint32_t set) {
+    bool first = true;
+    for (size_t i = 0; i < given->width; i++) {
+        if ((set >> i & 1) == 0)
+            continue;
+        fputs(first ? "" : ", ", to);
+        put_piece(to, i < given->named ? given->variable[i] : from_text("_"));
+        first = false;
+    }
+}
+
+/* Of which variables does no group of this point have any? Those of the line vars are asked for. */
+static uint32_t ground_at(const point *at) {
+    uint32_t set = 0;
+    for (uint32_t i = 0; i < at->given->named; i++)
+        set |= (uint32_t)is_ground(at, i + 1) << i;
+    return set;
+}
+
+/* ---- Points */
+
+/* Says where a point is. */
+static void put_point(FILE *to, const rules *given, size_t after) {
+    if (after == 0) {
+        fputs("before the first equation", to);
+        return;
+    }
+    fprintf(to, "after equation %zu, ", after);
+    put_piece(to, given->equation[after - 1].text);
+}
+
+/* Says which variables are in no group at the start: every answer may depend on that. */
+static void put_absent(FILE *to, const rules *given) {
+    bool one = (given->absent & (given->absent - 1)) == 0;
+    put_variables(to, given, given->absent);
+    fputs(one ? " is in no group at the start: it counts as known"
+              : " are in no group at the start: they count as known", to);
+}
+
+/* The 16-bit number at index i of a form. */
+static uint32_t word_at(const uint8_t *form, size_t i) {
+    return (uint32_t)form[2 * i] | (uint32_t)form[2 * i + 1] << 8;
+}
+
+/* An entry as a string, and the variables that it has and may have. */
+static void put_entry(FILE *to, const rules *given, uint32_t care, uint32_t value) {
+    uint32_t either = ~care & ((1u << given->width) - 1);
+    fputs("    ", to);
+    for (size_t i = 0; i < given->width; i++)
+        fputc((care >> i & 1) == 0 ? '*' : (value >> i & 1) == 0 ? '0' : '1', to);
+    /* A single * without a 1 is a 1: a group is never empty. */
+    fputs(value == 0 && (either & (either - 1)) != 0 ? "  any of " : "  ", to);
+    put_variables(to, given, value);
+    fputs(value != 0 && either != 0 ? ", perhaps with " : "", to);
+    put_variables(to, given, either);
+    fputc('\n', to);
+}
+
+/* The table of a point, an entry a line, and the variables that are known there. */
+static void put_table(FILE *to, const point *at) {
+    size_t entries = word_at(at->form, 1);
+    uint32_t ground = ground_at(at);
+    for (size_t i = 0; i < entries; i++)
+        put_entry(to, at->given, word_at(at->form, 2 + i), word_at(at->form, 2 + entries + i));
+    if (entries == 0)
+        fputs("    no entry\n", to);
+    if (ground != 0) {
+        fputs("    known: ", to);
+        put_variables(to, at->given, ground);
+        fputc('\n', to);
+    }
+}
+
+/* Says that an equation is full, what was known before it, and what is safe after it. */
+static void tell_full(const point *before) {
+    const rules *given = before->given;
+    const equation *full = &given->equation[before->after];
+    tell(&full->where, full->text,
+         "Equation %zu is full: it needs a table of more than %d entries.", before->after + 1,
+         SHARING_MAX_ENTRIES);
+    fputs("    No answer can be given for a point after it. What is safe to go on with there is\n"
+          "    the all-star table, where every variable may share with every other: ", stderr);
+    for (size_t i = 0; i < given->width; i++)
+        fputc('*', stderr);
+    fprintf(stderr, "\n    Before it answers are given (--after %zu), from what was known ",
+            before->after);
+    put_point(stderr, given, before->after);
+    fputs(":\n", stderr);
+    put_table(stderr, before);
+}
+
+/* Runs the first equations, `after` in number. A full one, or a refusal, is said. */
+static bool reach(const rules *given, size_t after, point *out) {
+    uint8_t table[SHARING_MAX_FORM], equations[MOST_EQUATIONS_FORM];
+    size_t table_len = write_table(given, table);
+    size_t equations_len = write_equations(given, after, equations);
+    sharing_running state =
+        sharing_run(SHARING_POSITIVE, table, table_len, equations, equations_len);
+    if (state.code != SHARING_FULL && !accepted(given, state.code))
+        return false;
+    out->given = given;
+    out->after = state.applied;
+    out->len = 4 + 4 * state.table.n;
+    if (!accepted(given, sharing_write(&state, out->form, sizeof out->form)))
+        return false;
+    if (state.code == SHARING_FULL)
+        tell_full(out);
+    return state.code == SHARING_ACCEPTED;
+}
+
+/* Reads a file, and says which of its variables are in no group. NULL where it is wrong. */
+rules *open_rules(const char *path) {
+    rules *given = read_rules(path);
+    point start;
+    if (given == NULL)
+        return NULL;
+    if (!reach(given, 0, &start)) {
+        free_rules(given);
+        return NULL;
+    }
+    given->absent = ground_at(&start);
+    for (size_t i = 0; i < given->named; i++) {
+        if ((given->absent >> i & 1) == 0)
+            continue;
+        fprintf(stderr, "%s: ", given->name);
+        put_piece(stderr, given->variable[i]);
+        fputs(" is in no group: it counts as known\n", stderr);
+    }
+    return given;
+}
+
+/* ---- Goals */
+
+/* Asks of a point whether goals may run side by side, and writes the answer's line. */
+static int answer(const point *at, const piece names[2], const uint32_t goals[2]) {
+    const rules *given = at->given;
+    uint32_t yes = 0;
+    uint32_t code =
+        sharing_independent(SHARING_POSITIVE, at->form, at->len, goals[0], goals[1], &yes);
+    if (!accepted(given, code))
+        return STATUS_WRONG;
+    put_piece(stdout, names[0]);
+    fputs(" and ", stdout);
+    put_piece(stdout, names[1]);
+    printf(": %s side by side ", yes ? "may run" : "may not run");
+    put_point(stdout, given, at->after);
+    if (!yes || given->absent != 0) {
+        fputs(yes ? " (" : " (they may share a variable", stdout);
+        fputs(!yes && given->absent != 0 ? "; " : "", stdout);
+        if (given->absent != 0)
+            put_absent(stdout, given);
+        fputc(')', stdout);
+    }
+    putchar('\n');
+    return yes ? STATUS_YES : STATUS_NO;
+}
+
+/* In a goal there are blanks, but no comments. */
+static void skip_blanks(cursor *c) {
+    while (is_blank(peek(c)))
+        c->at++;
+}
+
+/* One variable of a goal, as the library takes it: bit i - 1 is for Xi. */
+static bool read_goal_variable(const rules *given, const place *where, cursor *c, uint32_t *set) {
+    const char *more = ", with commas between them, or - for no variable";
+    uint32_t number = 0;
+    piece name;
+    skip_blanks(c);
+    name = piece_here(*c);
+    if (!starts_variable(peek(c)))
+        tell_cannot(where, name);
+    else if (!find_variable(given, name, &number))
+        tell_unknown(given, where, name);
+    else {
+        take_name(c);
+        skip_blanks(c);
+        *set |= 1u << (number - 1);
+        return true;
+    }
+    expected_variables(given, more);
+    return false;
+}
+
+/* A goal: variables with commas between them, or - for none. */
+static bool read_goal(const rules *given, const char *name, const char *goal, uint32_t *set) {
+    place where = {name, 0, from_text(goal)};
+    cursor c = {where.text.at, where.text.at + where.text.len};
+    *set = 0;
+    if (strcmp(goal, "-") == 0)
+        return true;
+    do {
+        if (!read_goal_variable(given, &where, &c, set))
+            return false;
+    } while (take(&c, ','));
+    if (peek(&c) == END)
+        return true;
+    tell_cannot(&where, piece_here(c));
+    expected("a comma and a further variable, or the end of the goal");
+    return false;
+}
+
+/* A goal as the answer names it. */
+static piece goal_name(const char *goal) {
+    return from_text(strcmp(goal, "-") == 0 ? "no variable" : goal);
+}
+
+/* May two goals run side by side at a point? */
+int apart(const rules *given, char *const goals[2], size_t after) {
+    piece names[2] = {goal_name(goals[0]), goal_name(goals[1])};
+    uint32_t sets[2];
+    point at;
+    if (!read_goal(given, "sharetext: goal 1", goals[0], &sets[0]) ||
+        !read_goal(given, "sharetext: goal 2", goals[1], &sets[1]) || !reach(given, after, &at))
+        return STATUS_WRONG;
+    return finish(answer(&at, names, sets));
+}
+
+/* The same question for each pair of the variables of the line vars. */
+int pairs(const rules *given, size_t after) {
+    point at;
+    if (!reach(given, after, &at))
+        return STATUS_WRONG;
+    if (given->named == 1)
+        fprintf(stderr, "%s: There is one variable, and so no pair.\n", given->name);
+    for (size_t i = 0; i < given->named; i++)
+        for (size_t j = i + 1; j < given->named; j++) {
+            piece names[2] = {given->variable[i], given->variable[j]};
+            uint32_t sets[2] = {1u << i, 1u << j};
+            if (answer(&at, names, sets) == STATUS_WRONG)
+                return STATUS_WRONG;
+        }
+    return finish(STATUS_YES);
+}
+
+/* The table before the first equation and after each one. */
+int tables(const rules *given) {
+    for (size_t after = 0; after <= given->equations; after++) {
+        point at;
+        if (!reach(given, after, &at))
+            return finish(STATUS_WRONG);
+        fputs("Table ", stdout);
+        put_point(stdout, given, after);
+        if (given->absent != 0) {
+            fputs(" (", stdout);
+            put_absent(stdout, given);
+            putchar(')');
+        }
+        fputs(":\n", stdout);
+        put_table(stdout, &at);
+    }
+    return finish(STATUS_YES);
+}

@@ -1,0 +1,78 @@
+/* What was read of a readable file: its variables by name, and its written forms. */
+#include "rules.h"
+
+#include <stdlib.h>
+
+/* Gives back the memory of a file; NULL is none. */
+void free_rules(rules *given) {
+    if (given != NULL)
+        free(given->bytes);
+    free(given);
+}
+
+/* ---- Variables */
+
+/* The number of a variable of the line vars, from 1. */
+bool find_variable(const rules *given, piece name, uint32_t *number) {
+    for (size_t i = 0; i < given->named; i++)
+        if (same_piece(given->variable[i], name)) {
+            *number = (uint32_t)(i + 1);
+            return true;
+        }
+    return false;
+}
+
+/* Says that one of the variables is expected, and then what more there is to say. */
+void expected_variables(const rules *given, const char *more) {
+    fputs("    Expected: ", stderr);
+    for (size_t i = 0; i < given->named; i++) {
+        if (i > 0)
+            fputs(i + 1 == given->named ? " or " : ", ", stderr);
+        put_piece(stderr, given->variable[i]);
+    }
+    fprintf(stderr, "%s.\n", more);
+}
+
+/* Says that a name, in the file or in a goal, is not that of a variable of the file. */
+void tell_unknown(const rules *given, const place *where, piece name) {
+    bool in_goal = where->line == 0;
+    tell_piece(where, name, " is not one of the variables of line %lu%s%s.", given->vars_line,
+               in_goal ? " of " : "", in_goal ? given->name : "");
+}
+
+/* ---- Written forms */
+
+/* A 16-bit number, low byte first. */
+static void put_word(uint8_t *out, size_t *len, size_t word) {
+    out[(*len)++] = (uint8_t)(word & 0xff);
+    out[(*len)++] = (uint8_t)(word >> 8);
+}
+
+/* The form of the table. An entry has 0 at the position of each _, but for the entry of that _. */
+size_t write_table(const rules *given, uint8_t out[SHARING_MAX_FORM]) {
+    uint32_t unnamed = (1u << given->width) - (1u << given->named);
+    size_t len = 0;
+    put_word(out, &len, given->width);
+    put_word(out, &len, given->entries);
+    for (size_t i = 0; i < given->entries; i++)
+        put_word(out, &len, given->care[i] | unnamed);
+    for (size_t i = 0; i < given->entries; i++)
+        put_word(out, &len, given->value[i]);
+    return len;
+}
+
+/* The form of the first equations, `count` in number. */
+size_t write_equations(const rules *given, size_t count, uint8_t out[MOST_EQUATIONS_FORM]) {
+    size_t tokens = 0, len = 0;
+    for (size_t i = 0; i < count; i++)
+        tokens += given->equation[i].tokens;
+    put_word(out, &len, count);
+    put_word(out, &len, tokens);
+    for (size_t i = 0; i < count; i++)
+        put_word(out, &len, given->equation[i].left);
+    for (size_t i = 0; i < count; i++)
+        put_word(out, &len, given->equation[i].tokens);
+    for (size_t i = 0; i < tokens; i++)
+        put_word(out, &len, given->token[i]);
+    return len;
+}
