@@ -3,9 +3,9 @@
 # make calls     compares every exported call with plain Rust, then again with its buffers between protected pages
 # make runs      sharerun on stored cases and against plain Rust
 # make tools     the text front end
-# make examples  the C interface: header, refusals and examples, in place and installed
+# make examples  the C interface: headers, refusals, utilities, recipes and examples, in place and installed
 # make bench     times ours against plain Rust and prints ratios; make same only sees that both give the same
-# make install   the header, the library, its pkg-config file and the examples, under PREFIX
+# make install   the headers, the library, its pkg-config file, the programs, their manual pages and the examples, under PREFIX
 .PHONY: run test plain bench same calls runs tools stack fmt library examples install
 
 SHELL := bash
@@ -19,11 +19,10 @@ FOLDERS := CARGO_TARGET_DIR=$(CURDIR)/target/cargo SHARING_LIB_DIR=$(LIBRARY)
 CARGO := $(FOLDERS) cargo
 BENCH := $(CARGO) run --quiet --release --manifest-path bench/Cargo.toml --
 
-VERSION := 0.1.0
+# The header has the version.
+VERSION := $(shell sed -n 's/^.define SHARING_VERSION_M[A-Z]* \([0-9]*\)$$/\1./p; s/^.define SHARING_VERSION_PATCH //p' include/sharing.h | tr -d '\n')
 PREFIX ?= /usr/local
-# A relative PREFIX is made absolute: programs elsewhere read it from the pkg-config file.
-BASE := $(abspath $(PREFIX))
-INTO := $(DESTDIR)$(BASE)
+INTO := $(DESTDIR)$(abspath $(PREFIX))
 
 run: $(PROGRAM) target/tools/sharetext
 	@tools/show examples/parish.txt
@@ -56,6 +55,7 @@ library: $(ARCHIVE)
 # What is proved and unchanged is not proved again; of what rt prints only its own lines are shown.
 $(ARCHIVE): $(CRATES)
 	@rt staticlib analyser | grep '^rt:'
+	@touch $@
 
 $(PROGRAM): $(CRATES)
 	@rt check sharerun | grep '^rt:'
@@ -65,17 +65,25 @@ target/tools/sharetext: $(wildcard tools/*.c tools/*.h include/*.h) $(ARCHIVE)
 	@mkdir -p $(@D)
 	@cc -std=c99 -O2 -Wall -Wextra -Iinclude $(filter %.c,$^) $(ARCHIVE) -o $@
 
-examples: library
+examples: library $(PROGRAM) target/tools/sharetext
 	@tests/c
 	@tests/install
 
-install: library
-	@install -d $(INTO)/include $(INTO)/lib/pkgconfig $(INTO)/share/doc/sharing/examples
-	@install -m 644 include/sharing.h $(INTO)/include
+# What is built and up to date is only copied. The manual pages are those that are there.
+MANUALS := $(wildcard tools/*.1)
+install: $(ARCHIVE) $(PROGRAM) target/tools/sharetext
+	@install -d $(INTO)/bin $(INTO)/include $(INTO)/lib/pkgconfig $(INTO)/share/doc/sharing/examples
+	@install -m 755 $(PROGRAM) target/tools/sharetext $(INTO)/bin
+	@install -m 644 include/sharing.h include/sharing_util.h $(INTO)/include
 	@install -m 644 $(ARCHIVE) $(INTO)/lib/libsharing.a
-	@sed -e 's|@PREFIX@|$(BASE)|' -e 's|@VERSION@|$(VERSION)|' sharing.pc.in >$(INTO)/lib/pkgconfig/sharing.pc
+	@sed 's|@VERSION@|$(VERSION)|' sharing.pc.in >$(INTO)/lib/pkgconfig/sharing.pc
 	@chmod 644 $(INTO)/lib/pkgconfig/sharing.pc
-	@install -m 644 $(wildcard examples/*.c examples/*.out examples/*.txt) $(INTO)/share/doc/sharing/examples
+	@install -m 644 docs/COMPILER.md $(INTO)/share/doc/sharing
+	@install -m 644 $(wildcard examples/*.c examples/*.h examples/*.out examples/*.txt) $(INTO)/share/doc/sharing/examples
+ifneq ($(MANUALS),)
+	@install -d $(INTO)/share/man/man1
+	@install -m 644 $(MANUALS) $(INTO)/share/man/man1
+endif
 
 bench:
 	@rt staticlib timing

@@ -10,7 +10,7 @@
  *
  *     cc parish.c $(pkg-config --cflags --libs sharing) -o parish
  */
-#include <sharing.h>
+#include <sharing_util.h>
 
 #include <stdio.h>
 #include <stdlib.h>
@@ -26,45 +26,45 @@ static const goal date_baptism = {"date_baptism(Baptism)", BAPTISM};
 static const goal date_wedding = {"date_wedding(Wedding)", WEDDING};
 static const goal open_book = {"open_book(Parish, Book)", PARISH | BOOK};
 
-/* A form is 16-bit words, low byte first: l, n, then n care words, then n value words. */
+/* A table in bytes. Its length is that of its form, not that of the buffer. */
 typedef struct { uint8_t bytes[SHARING_MAX_FORM]; } form;
 
-static void put_word(uint8_t *bytes, size_t index, uint32_t word) {
-    bytes[2 * index] = (uint8_t)(word & 0xff);
-    bytes[2 * index + 1] = (uint8_t)(word >> 8);
+static size_t length(const form *table) {
+    return sharing_front_length(table->bytes, sizeof table->bytes);
 }
 
-static uint32_t word_at(const uint8_t *bytes, size_t index) {
-    return bytes[2 * index] | (uint32_t)bytes[2 * index + 1] << 8;
-}
-
-static size_t entries(const form *table) { return word_at(table->bytes, 1); }
-static size_t length(const form *table) { return 4 + 4 * entries(table); }
+static size_t entries(const form *table) { return sharing_word_at(table->bytes, 1); }
 
 /* An answer other than the one that is due ends the program. */
 static void expect(uint32_t due, uint32_t code, const char *call) {
     if (code != due) {
-        fprintf(stderr, "%s answered %u\n", call, (unsigned)code);
+        fprintf(stderr, "%s answered %s\n", call, sharing_refusal_word(code));
         exit(EXIT_FAILURE);
     }
 }
 
 static void accepted(uint32_t code, const char *call) { expect(SHARING_ACCEPTED, code, call); }
 
-/* Position 1 first; a star where the entry leaves the position open. */
+/* Entry i of a table. */
+static sharing_entry entry_of(const form *table, size_t i) {
+    sharing_entry entry = {0, 0};
+    accepted(sharing_entry_at(table->bytes, length(table), i, &entry), "sharing_entry_at");
+    return entry;
+}
+
+/* The entries as text, position 1 first. */
 static void print_table(const form *table) {
-    size_t n = entries(table);
+    char text[VARIABLES + 1];
     printf("   table");
-    for (size_t i = 0; i < n; i++) {
-        uint32_t care = word_at(table->bytes, 2 + i);
-        uint32_t value = word_at(table->bytes, 2 + n + i);
-        putchar(' ');
-        for (int x = 0; x < VARIABLES; x++)
-            putchar(care >> x & 1 ? (value >> x & 1 ? '1' : '0') : '*');
+    for (size_t i = 0; i < entries(table); i++) {
+        accepted(sharing_entry_text(VARIABLES, entry_of(table, i), text, sizeof text),
+                 "sharing_entry_text");
+        printf(" %s", text);
     }
     putchar('\n');
 }
 
+/* Prints whether two goals may run side by side. */
 static void ask(const form *table, goal one, goal other) {
     uint32_t yes = 0;
     accepted(sharing_independent(SHARING_POSITIVE, table->bytes, length(table), one.variables,
@@ -84,12 +84,12 @@ static void start_of_rule(form *table) {
     ask(table, date_baptism, date_wedding);
 }
 
-/* A head has its top bit set, its symbol in bits 4 to 14 and its arity in bits 0 to 3. */
+/* A term is a head, with its symbol and arity, and then its arguments. */
 static void apply_equation(const form *before, form *computed) {
-    const uint32_t symbol_after = 1, arity = 1;
+    const uint32_t symbol_after = 1;
     uint8_t term[4];
-    put_word(term, 0, 0x8000 | symbol_after << 4 | arity);
-    put_word(term, 1, X_WEDDING);
+    sharing_put_word(term, 0, sharing_head(symbol_after, 1));
+    sharing_put_word(term, 1, X_WEDDING);
     accepted(sharing_equation(SHARING_POSITIVE, before->bytes, length(before), X_BAPTISM, term,
                               sizeof term, computed->bytes, sizeof computed->bytes),
              "sharing_equation");
@@ -99,17 +99,17 @@ static void apply_equation(const form *before, form *computed) {
     ask(computed, date_baptism, open_book);
 }
 
-/* The form without its last entry. Nothing in it shows that there was one more. */
+/* The table without its last entry. Nothing in it shows that there was one more. */
 static void drop_last(const form *table, form *shorter) {
-    size_t n = entries(table), kept = n > 0 ? n - 1 : 0;
-    put_word(shorter->bytes, 0, VARIABLES);
-    put_word(shorter->bytes, 1, (uint32_t)kept);
-    for (size_t i = 0; i < kept; i++) {
-        put_word(shorter->bytes, 2 + i, word_at(table->bytes, 2 + i));
-        put_word(shorter->bytes, 2 + kept + i, word_at(table->bytes, 2 + n + i));
-    }
+    sharing_entry kept[SHARING_MAX_ENTRIES];
+    size_t n = entries(table) > 0 ? entries(table) - 1 : 0;
+    for (size_t i = 0; i < n; i++)
+        kept[i] = entry_of(table, i);
+    accepted(sharing_make_form(VARIABLES, kept, n, shorter->bytes, sizeof shorter->bytes),
+             "sharing_make_form");
 }
 
+/* What a table that lost a group answers. */
 static void bad_release(const form *computed) {
     form bad;
     uint32_t known = 0, equal = 1;
@@ -134,7 +134,8 @@ static void cut_form(const form *computed) {
     expect(SHARING_TORN,
            sharing_read(computed->bytes, length(computed) - 1, out.bytes, sizeof out.bytes),
            "sharing_read");
-    printf("\n4. The table in 2 with its last byte cut off: refused %d, torn\n", SHARING_TORN);
+    printf("\n4. The table in 2 with its last byte cut off: refused %d, %s\n", SHARING_TORN,
+           sharing_refusal_word(SHARING_TORN));
     printf("   Is the output as it was? %s\n", memcmp(&out, &before, sizeof out) ? "no" : "yes");
 }
 

@@ -1,42 +1,74 @@
 /*
- * The running analysis: one state that each equation changes. X1 Baptism, X2 Wedding, X3 Parish.
+ * The running analysis: one state that each equation changes, and what to do where an equation is
+ * refused. X1 Baptism, X2 Wedding, X3 Parish.
  *
  *     cc running.c $(pkg-config --cflags --libs sharing) -o running
  */
-#include <sharing.h>
+#include <sharing_util.h>
 
 #include <stdio.h>
 #include <stdlib.h>
 
-/* A 16-bit word as two bytes, low byte first. */
-#define WORD(w) (uint8_t)((w) & 0xff), (uint8_t)((w) >> 8)
-
-/* A form by hand: l, n, then n care words, then n value words. The entries are 100, 01*, 0*1. */
-static const uint8_t start_form[] = {WORD(3), WORD(3), WORD(7), WORD(3), WORD(5),
-                                     WORD(1), WORD(2), WORD(4)};
-
-/* A head has its top bit set, its symbol in bits 4 to 14 and its arity in bits 0 to 3. */
-static const uint8_t after_wedding[] = {WORD(0x8000 | 1 << 4 | 1), WORD(2)};
-static const uint8_t ashby[] = {WORD(0x8000 | 2 << 4 | 0)};
+/* What the program does with an equation that the analysis refuses. */
+enum { SKIPS = 0, RUNS_IT = 1 };
 
 /* An answer other than the one that is due ends the program. */
 static void expect(uint32_t due, uint32_t code, const char *call) {
     if (code != due) {
-        fprintf(stderr, "%s answered %u\n", call, (unsigned)code);
+        fprintf(stderr, "%s answered %s\n", call, sharing_refusal_word(code));
         exit(EXIT_FAILURE);
     }
 }
 
-/* An answer, then the state, which is open to read: equations accepted so far, and the table. */
+/* The state, which is open to read: equations accepted so far, and the table. */
 static void print_state(const char *what, uint32_t answer, const sharing_running *state) {
     const sharing_table *table = &state->table;
-    printf("%-24s answer %u, applied %u, table", what, (unsigned)answer, (unsigned)state->applied);
-    for (size_t i = 0; i < table->n; i++) {
-        putchar(' ');
-        for (uint32_t x = 0; x < table->l; x++)
-            putchar(table->care[i] >> x & 1 ? (table->value[i] >> x & 1 ? '1' : '0') : '*');
+    char text[SHARING_MAX_VARIABLES + 1];
+    printf("%-24s answer %u, %s; applied %u, table", what, (unsigned)answer,
+           sharing_refusal_word(answer), (unsigned)state->applied);
+    for (size_t i = 0; i < table->n && i < 3; i++) {
+        sharing_entry entry = {table->care[i], table->value[i]};
+        expect(0, sharing_entry_text(table->l, entry, text, sizeof text), "sharing_entry_text");
+        printf(" %s", text);
     }
-    putchar('\n');
+    printf("%s\n", table->n > 3 ? " ..." : "");
+}
+
+/* A state with the table of all groups. It describes any bindings, so that it is always sound. */
+static sharing_running start_unknown(uint32_t side, uint32_t l) {
+    uint8_t form[SHARING_MAX_FORM];
+    expect(0, sharing_unknown_form(side, l, form, sizeof form), "sharing_unknown_form");
+    sharing_running state = sharing_start(side, form, sharing_front_length(form, sizeof form));
+    expect(0, state.code, "sharing_start");
+    return state;
+}
+
+/*
+ * One more equation, between a variable and a term with the variables of a set. A refused equation
+ * has not been applied. If the program does not run it either, the state holds as it is. If the
+ * program runs it all the same, the state may lack groups: go on from the table of all groups, in
+ * a new state that counts from 0.
+ */
+static void equation(sharing_running *state, const char *text, uint32_t variable, uint32_t set,
+                     int if_refused) {
+    uint8_t term[SHARING_SET_TERM];
+    size_t term_len = sharing_set_term(set, term);
+    uint32_t answer = sharing_step(state, variable, term, term_len);
+    if (answer != SHARING_ACCEPTED && if_refused == RUNS_IT)
+        *state = start_unknown(state->side, state->table.l);
+    print_state(text, answer, state);
+}
+
+/* May goals on two sets of variables run side by side? */
+static void ask(const char *what, const sharing_running *state, uint32_t one, uint32_t other) {
+    uint8_t form[SHARING_MAX_FORM];
+    uint32_t yes = 0;
+    expect(0, sharing_write(state, form, sizeof form), "sharing_write");
+    expect(0,
+           sharing_independent(state->side, form, sharing_front_length(form, sizeof form), one,
+                               other, &yes),
+           "sharing_independent");
+    printf("%-24s %s\n", what, yes ? "yes" : "no");
 }
 
 /*
@@ -46,9 +78,10 @@ static void print_state(const char *what, uint32_t answer, const sharing_running
 static void print_smaller(const char *what, const sharing_running *state) {
     uint8_t positive[SHARING_MAX_FORM] = {0}, negative[SHARING_MAX_FORM] = {0};
     sharing_part part = {positive, 0};
-    expect(SHARING_ACCEPTED, sharing_write(state, positive, sizeof positive), "sharing_write");
-    expect(SHARING_ACCEPTED,
-           sharing_change_side(SHARING_POSITIVE, positive, 4 + 4 * state->table.n, negative,
+    expect(0, sharing_write(state, positive, sizeof positive), "sharing_write");
+    expect(0,
+           sharing_change_side(SHARING_POSITIVE, positive,
+                               sharing_front_length(positive, sizeof positive), negative,
                                sizeof negative),
            "sharing_change_side");
     sharing_smaller(positive, sizeof positive, negative, sizeof negative, &part);
@@ -60,24 +93,42 @@ static void print_smaller(const char *what, const sharing_running *state) {
            (unsigned)part.len);
 }
 
-int main(void) {
-    sharing_running state = sharing_start(SHARING_POSITIVE, start_form, sizeof start_form);
-    expect(SHARING_ACCEPTED, state.code, "sharing_start");
+/* The register: two good equations, and a wrong one that the program does not run. */
+static void parish(void) {
+    const sharing_entry entries[] = {{7, 1}, {3, 2}, {5, 4}}; /* 100 01* 0*1 */
+    uint8_t form[SHARING_MAX_FORM];
+    expect(0, sharing_make_form(3, entries, 3, form, sizeof form), "sharing_make_form");
+    sharing_running state =
+        sharing_start(SHARING_POSITIVE, form, sharing_front_length(form, sizeof form));
+    expect(0, state.code, "sharing_start");
     print_state("start", state.code, &state);
     print_smaller("smaller at the start", &state);
-
-    uint32_t answer = sharing_step(&state, 1, after_wedding, sizeof after_wedding);
-    expect(SHARING_ACCEPTED, answer, "sharing_step");
-    print_state("Baptism = after(Wedding)", answer, &state);
-
-    /* A refused equation returns its number and leaves the whole state as it was. */
-    answer = sharing_step(&state, 4, ashby, sizeof ashby);
-    expect(SHARING_NAME, answer, "sharing_step");
-    print_state("X4 = ashby", answer, &state);
-
-    answer = sharing_step(&state, 3, ashby, sizeof ashby);
-    expect(SHARING_ACCEPTED, answer, "sharing_step");
-    print_state("Parish = ashby", answer, &state);
+    equation(&state, "Baptism = after(Wedding)", 1, 2, RUNS_IT);
+    equation(&state, "X4 = ashby", 4, 0, SKIPS);
+    equation(&state, "Parish = ashby", 3, 0, RUNS_IT);
     print_smaller("smaller at the end", &state);
+}
+
+/* Sixteen free variables. X1 = f(X1, ..., X15) needs entry 257, and is run all the same. */
+static void full(void) {
+    uint8_t form[SHARING_MAX_FORM];
+    expect(0, sharing_all_free(16, form, sizeof form), "sharing_all_free");
+    sharing_running state =
+        sharing_start(SHARING_POSITIVE, form, sharing_front_length(form, sizeof form));
+    expect(0, state.code, "sharing_start");
+    print_state("start", state.code, &state);
+    equation(&state, "X16 = a", 16, 0, RUNS_IT);
+    ask("X2 beside X3?", &state, 1u << 1, 1u << 2);
+    equation(&state, "X1 = f(X1, ..., X15)", 1, sharing_variables(15), RUNS_IT);
+    ask("X2 beside X3?", &state, 1u << 1, 1u << 2);
+    equation(&state, "X2 = a", 2, 0, RUNS_IT);
+    ask("X2 beside X3?", &state, 1u << 1, 1u << 2);
+}
+
+int main(void) {
+    printf("Three variables; the wrong equation X4 = ashby is not run\n");
+    parish();
+    printf("\nSixteen variables; a full equation is run all the same\n");
+    full();
     return EXIT_SUCCESS;
 }

@@ -1,5 +1,7 @@
 /*
- * Ternary set-sharing tables, positive and negative: the calls of the analyser.
+ * Ternary set-sharing tables, positive and negative: the calls of the analyser. The library is for
+ * x86-64 Linux. sharing_util.h has what most callers write around these calls; docs/COMPILER.md,
+ * installed as share/doc/sharing/COMPILER.md, has recipes for a compiler of clauses.
  *
  * Tables
  *   A table speaks of the program variables X1 to Xl, l from 1 to 16, and has 0 to 256 entries in
@@ -15,6 +17,10 @@
  *   Reading drops an entry that is all zero or covered by another one (of equal ones the first
  *   stays); the groups are the same. What a call wrote reads back as it stands, unless the caller
  *   changed the table in a sharing_running by hand.
+ *   A length that is given with a table is that of the form, 4 + 4n, not that of the buffer it
+ *   stands in: more bytes than the sizes give are refused 1, as fewer are. The length of what a
+ *   call wrote follows from its n (sharing_front_length in sharing_util.h). Only sharing_smaller
+ *   looks at the front of a longer buffer.
  *
  *   TABLE FORM below stands for these refusals, in this order:
  *     1   fewer than 4 bytes
@@ -45,14 +51,58 @@
  *   - The buffers of one call, and the objects that it writes, never overlap.
  *   - An output may be longer than what is written; its other bytes keep what they held. An output
  *     of SHARING_MAX_FORM bytes is never too short.
- *   - 256 KiB of stack are enough for any call (tested with the deepest terms, not proved). No call
- *     allocates memory, keeps anything between calls or uses a global variable.
+ *   - No call allocates memory, keeps anything between calls or uses a global variable.
+ *
+ * After a refusal
+ *   A refused equation has not been applied: the table or state is still the one before it, and
+ *   describes the bindings before it. Where the program does not run the equation either, go on
+ *   from there. Where the program runs it all the same, that table may lack groups which the
+ *   equation makes, so that a goal could be said to be independent which is not. Go on from the
+ *   table of all groups then: one entry of stars for the positive side, no entry for the negative
+ *   side (sharing_unknown_form in sharing_util.h). It describes any bindings. This holds for every
+ *   number, 8 (full) as well as 5. In place of a join or projection that was refused 8 the same
+ *   table is sound, of the l that is due.
+ *
+ * Threads
+ *   The calls are safe from any number of threads at once, without a lock: there is no global
+ *   state and no allocation, and a call touches only what is lent to it. Threads may read one
+ *   table at the same time. Two threads must not lend one output, answer or state to calls at the
+ *   same time, nor may one write to a buffer that a call of another still reads.
+ *
+ * Stack
+ *   256 KiB are enough for any call. Measured on the library as shipped, not proved:
+ *     sharing_equation, sharing_run, sharing_step, by the tokens of the term, however they nest
+ *       up to 64 tokens    64 KiB
+ *       128                72 KiB
+ *       256                88 KiB
+ *       512               120 KiB
+ *       1024              184 KiB
+ *     any other call       48 KiB
  */
 #ifndef SHARING_H
 #define SHARING_H
 
 #include <stddef.h>
 #include <stdint.h>
+
+/* The version, which stands here and nowhere else, as numbers and as text. */
+#define SHARING_VERSION_MAJOR 0
+#define SHARING_VERSION_MINOR 1
+#define SHARING_VERSION_PATCH 0
+#define SHARING_VERSION                                                                            \
+    SHARING_QUOTED(SHARING_VERSION_MAJOR)                                                          \
+    "." SHARING_QUOTED(SHARING_VERSION_MINOR) "." SHARING_QUOTED(SHARING_VERSION_PATCH)
+#define SHARING_QUOTED(number) SHARING_QUOTED_AS_IS(number)
+#define SHARING_QUOTED_AS_IS(number) #number
+
+/* A call whose answer is dropped: a warning, where the compiler knows how. */
+#if defined(__cplusplus) && __cplusplus >= 201703L
+#define SHARING_MUST_USE [[nodiscard]]
+#elif defined(__GNUC__)
+#define SHARING_MUST_USE __attribute__((warn_unused_result))
+#else
+#define SHARING_MUST_USE
+#endif
 
 #ifdef __cplusplus
 extern "C" {
@@ -114,6 +164,7 @@ typedef struct {
  * Refusals in order: TABLE FORM; 9.
  * After a refusal: out is as it was.
  */
+SHARING_MUST_USE
 uint32_t sharing_read(const uint8_t *table, size_t table_len, uint8_t *out, size_t out_len);
 
 /*
@@ -123,6 +174,7 @@ uint32_t sharing_read(const uint8_t *table, size_t table_len, uint8_t *out, size
  * Refusals in order: 2 where l is not 1 to 16; 4 where any word has a bit above l; 8; 9.
  * After a refusal: out is as it was.
  */
+SHARING_MUST_USE
 uint32_t sharing_convert(uint32_t l, const uint32_t *groups, size_t groups_len, uint8_t *out,
                          size_t out_len);
 
@@ -132,6 +184,7 @@ uint32_t sharing_convert(uint32_t l, const uint32_t *groups, size_t groups_len, 
  * Refusals in order: TABLE FORM; 8; 9.
  * After a refusal: out is as it was.
  */
+SHARING_MUST_USE
 uint32_t sharing_change_side(uint32_t side, const uint8_t *table, size_t table_len, uint8_t *out,
                              size_t out_len);
 
@@ -141,6 +194,7 @@ uint32_t sharing_change_side(uint32_t side, const uint8_t *table, size_t table_l
  * Refusals in order: TABLE FORM; TERM; 8; 9.
  * After a refusal: out is as it was.
  */
+SHARING_MUST_USE
 uint32_t sharing_equation(uint32_t side, const uint8_t *table, size_t table_len, uint32_t variable,
                           const uint8_t *term, size_t term_len, uint8_t *out, size_t out_len);
 
@@ -150,6 +204,7 @@ uint32_t sharing_equation(uint32_t side, const uint8_t *table, size_t table_len,
  * Refusals in order: TABLE FORM of first; TABLE FORM of second; 10 where their l differ; 8; 9.
  * After a refusal: out is as it was.
  */
+SHARING_MUST_USE
 uint32_t sharing_join(uint32_t side, const uint8_t *first, size_t first_len, const uint8_t *second,
                       size_t second_len, uint8_t *out, size_t out_len);
 
@@ -160,6 +215,7 @@ uint32_t sharing_join(uint32_t side, const uint8_t *first, size_t first_len, con
  * Refusals in order: TABLE FORM; 11 where keep is 0 or has a bit above l; 8; 9.
  * After a refusal: out is as it was.
  */
+SHARING_MUST_USE
 uint32_t sharing_project(uint32_t side, const uint8_t *table, size_t table_len, uint32_t keep,
                          uint8_t *out, size_t out_len);
 
@@ -169,6 +225,7 @@ uint32_t sharing_project(uint32_t side, const uint8_t *table, size_t table_len, 
  * Refusals in order: TABLE FORM of first; TABLE FORM of second; 10 where their l differ.
  * After a refusal: *answer is as it was.
  */
+SHARING_MUST_USE
 uint32_t sharing_equal(const uint8_t *first, size_t first_len, const uint8_t *second,
                        size_t second_len, uint32_t *answer);
 
@@ -178,6 +235,7 @@ uint32_t sharing_equal(const uint8_t *first, size_t first_len, const uint8_t *se
  * Refusals in order: TABLE FORM; 5 where variable is not 1 to l.
  * After a refusal: *answer is as it was.
  */
+SHARING_MUST_USE
 uint32_t sharing_ground(uint32_t side, const uint8_t *table, size_t table_len, uint32_t variable,
                         uint32_t *answer);
 
@@ -188,6 +246,7 @@ uint32_t sharing_ground(uint32_t side, const uint8_t *table, size_t table_len, u
  * Refusals in order: TABLE FORM; 5 where first or second has a bit above l.
  * After a refusal: *answer is as it was.
  */
+SHARING_MUST_USE
 uint32_t sharing_independent(uint32_t side, const uint8_t *table, size_t table_len, uint32_t first,
                              uint32_t second, uint32_t *answer);
 
@@ -217,6 +276,7 @@ void sharing_smaller(const uint8_t *positive, size_t positive_len, const uint8_t
  * to m; then equation by equation: 5 where the left variable is not 1 to l, 5 where a token is a
  * variable not 1 to l, 6 where the tokens are not one whole term; then 8.
  */
+SHARING_MUST_USE
 sharing_running sharing_run(uint32_t side, const uint8_t *table, size_t table_len,
                             const uint8_t *equations, size_t equations_len);
 
@@ -226,6 +286,7 @@ sharing_running sharing_run(uint32_t side, const uint8_t *table, size_t table_le
  * Refusals in order, in `code`: TABLE FORM.
  * After a refusal `table` is all zero, so that sharing_step and sharing_write on it meet 2.
  */
+SHARING_MUST_USE
 sharing_running sharing_start(uint32_t side, const uint8_t *table, size_t table_len);
 
 /*
@@ -237,6 +298,7 @@ sharing_running sharing_start(uint32_t side, const uint8_t *table, size_t table_
  * zero; then TERM; 8.
  * After a refusal: the whole of *state is as it was, `code` too; the number is only returned.
  */
+SHARING_MUST_USE
 uint32_t sharing_step(sharing_running *state, uint32_t variable, const uint8_t *term,
                       size_t term_len);
 
@@ -246,6 +308,7 @@ uint32_t sharing_step(sharing_running *state, uint32_t variable, const uint8_t *
  * Refusals in order: 2, 3, 4 of the table in *state, as in sharing_step; 9.
  * After a refusal: out is as it was.
  */
+SHARING_MUST_USE
 uint32_t sharing_write(const sharing_running *state, uint8_t *out, size_t out_len);
 
 #ifdef __cplusplus

@@ -1,8 +1,12 @@
 /*
  * The header, in C99 and in C++: the numbers, the layouts and each call's type are as documented,
  * and the archive has every name. A state returned by value shows that both agree on its layout.
+ * The version as text has the version's numbers; with the argument "version" the program prints it.
  */
 #include <sharing.h>
+
+#include <stdio.h>
+#include <string.h>
 
 /* A size of -1 stops the compiler. */
 #define CHECK(name, holds) typedef char name[(holds) ? 1 : -1]
@@ -48,7 +52,20 @@ struct calls {
            sharing_independent, sharing_smaller, sharing_run,         sharing_start,
            sharing_step,        sharing_write};
 
-int main(void) {
+#if SHARING_VERSION_MAJOR < 0 || SHARING_VERSION_MINOR < 0 || SHARING_VERSION_PATCH < 0
+#error "the preprocessor cannot compare the version"
+#endif
+
+/* Is the version as text made of the three numbers? */
+static int version_agrees(void) {
+    char due[64];
+    sprintf(due, "%d.%d.%d", SHARING_VERSION_MAJOR, SHARING_VERSION_MINOR, SHARING_VERSION_PATCH);
+    return strcmp(due, SHARING_VERSION) == 0;
+}
+
+int main(int count, char **words) {
+    if (count > 1 && strcmp(words[1], "version") == 0)
+        return puts(SHARING_VERSION) < 0;
     /* Three variables and the entry 01*. */
     const uint8_t form[] = {3, 0, 1, 0, 3, 0, 2, 0};
     sharing_running state = calls.start(7, form, sizeof form);
@@ -57,5 +74,5 @@ int main(void) {
                 state.table.value[0] == 2;
     for (size_t i = 1; i < SHARING_MAX_ENTRIES; i++)
         agree = agree && state.table.care[i] == 0 && state.table.value[i] == 0;
-    return agree ? 0 : 1;
+    return agree && version_agrees() ? 0 : 1;
 }

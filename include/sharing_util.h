@@ -1,0 +1,603 @@
+/*
+ * What a caller of sharing.h would write around the calls: TESTED, NOT PROVED. The calls of
+ * sharing.h are proved; the functions below are compared in the tests with those calls and, for
+ * few variables, with a list of all groups.
+ *
+ * Optional and header-only: static inline functions for C99 and C++11 that need sharing.h and its
+ * library. They allocate nothing, keep nothing between calls and are as safe from threads as the
+ * calls are. Each needs at most 16 KiB of stack on top of that of the calls it makes.
+ *
+ * Rules for every function
+ *   - One that returns uint32_t and writes to a pointer returns 0, or the number of the first
+ *     refusal that it meets, with the meaning of sharing.h; it then has written nothing.
+ *   - TABLE FORM, 8, 9, sides, sets of variables and the rules on buffers are those of sharing.h:
+ *     no null pointers, no overlap, and a table's length is that of its form.
+ *   - Variables are counted from 1, entries and the elements of C arrays from 0.
+ */
+#ifndef SHARING_UTIL_H
+#define SHARING_UTIL_H
+
+#include <sharing.h>
+
+#include <string.h>
+
+/* An entry: bit i - 1 of care is 1 where position i is fixed, that of value is the digit there. */
+typedef struct {
+    uint32_t care;
+    uint32_t value;
+} sharing_entry;
+
+/* ---- 16-bit numbers, sets and tokens */
+
+/* The number at a place, counted from 0, of a row of 16-bit numbers, low byte first. */
+static inline uint32_t sharing_word_at(const uint8_t *row, size_t place) {
+    return (uint32_t)row[2 * place] | (uint32_t)row[2 * place + 1] << 8;
+}
+
+/* Writes a number, of which the low 16 bits count, at a place of such a row. */
+static inline void sharing_put_word(uint8_t *row, size_t place, uint32_t word) {
+    row[2 * place] = (uint8_t)(word & 0xff);
+    row[2 * place + 1] = (uint8_t)(word >> 8 & 0xff);
+}
+
+/* The set of the variables X1 to Xl, where l is at most 16. */
+static inline uint32_t sharing_variables(uint32_t l) {
+    return ((uint32_t)1 << l) - 1;
+}
+
+/* The token of a head: arity 0 to 15, symbol 0 to 2047. Higher bits of both are cut off. */
+static inline uint32_t sharing_head(uint32_t symbol, uint32_t arity) {
+    return 0x8000u | (symbol & 0x7ffu) << 4 | (arity & 0xfu);
+}
+
+/* ---- Forms and entries */
+
+/* The length in bytes of a form of n entries; 0 where n is above 256. */
+static inline size_t sharing_form_length(size_t n) {
+    return n > SHARING_MAX_ENTRIES ? 0 : 4 + 4 * n;
+}
+
+/* The TABLE FORM refusal of a form, or 0. */
+SHARING_MUST_USE
+static inline uint32_t sharing_check(const uint8_t *form, size_t form_len) {
+    if (form_len < 4)
+        return SHARING_TORN;
+    uint32_t l = sharing_word_at(form, 0), n = sharing_word_at(form, 1);
+    if (l < 1 || l > SHARING_MAX_VARIABLES)
+        return SHARING_WIDTH;
+    if (n > SHARING_MAX_ENTRIES)
+        return SHARING_ENTRIES;
+    if (form_len != sharing_form_length(n))
+        return SHARING_TORN;
+    n = (uint32_t)(form_len / 4 - 1); /* the same number, which the compiler can see */
+    for (size_t i = 0; i < n; i++) {
+        uint32_t care = sharing_word_at(form, 2 + i), value = sharing_word_at(form, 2 + n + i);
+        if ((care & ~sharing_variables(l)) != 0 || (value & ~care) != 0)
+            return SHARING_STRAY;
+    }
+    return SHARING_ACCEPTED;
+}
+
+/*
+ * The length of the form at the front of a buffer, whatever follows it; 0 where none stands there.
+ * After a call wrote to a buffer this is the length of what it wrote.
+ */
+static inline size_t sharing_front_length(const uint8_t *buffer, size_t buffer_len) {
+    size_t length = buffer_len < 4 ? 0 : sharing_form_length(sharing_word_at(buffer, 1));
+    if (length == 0 || length > buffer_len)
+        return 0;
+    return sharing_check(buffer, length) == SHARING_ACCEPTED ? length : 0;
+}
+
+/*
+ * Makes a form of l variables from n entries, as they stand and in order.
+ * Refusals in order: 2; 3 where n is above 256; 4; 9.
+ */
+SHARING_MUST_USE
+static inline uint32_t sharing_make_form(uint32_t l, const sharing_entry *entries, size_t n,
+                                         uint8_t *out, size_t out_len) {
+    if (l < 1 || l > SHARING_MAX_VARIABLES)
+        return SHARING_WIDTH;
+    if (n > SHARING_MAX_ENTRIES)
+        return SHARING_ENTRIES;
+    for (size_t i = 0; i < n; i++)
+        if ((entries[i].care & ~sharing_variables(l)) != 0 ||
+            (entries[i].value & ~entries[i].care) != 0)
+            return SHARING_STRAY;
+    if (out_len < sharing_form_length(n))
+        return SHARING_NARROW;
+    sharing_put_word(out, 0, l);
+    sharing_put_word(out, 1, (uint32_t)n);
+    for (size_t i = 0; i < n; i++) {
+        sharing_put_word(out, 2 + i, entries[i].care);
+        sharing_put_word(out, 2 + n + i, entries[i].value);
+    }
+    return SHARING_ACCEPTED;
+}
+
+/* Entry i of a form that was checked: the functions below use it. */
+static inline sharing_entry sharing_entry_in(const uint8_t *form, size_t i) {
+    sharing_entry entry;
+    entry.care = sharing_word_at(form, 2 + i);
+    entry.value = sharing_word_at(form, 2 + sharing_word_at(form, 1) + i);
+    return entry;
+}
+
+/*
+ * Takes entry i, counted from 0, out of a form; writes it to *entry.
+ * Refusals in order: TABLE FORM; 1 where the form ends before an entry i.
+ */
+SHARING_MUST_USE
+static inline uint32_t sharing_entry_at(const uint8_t *form, size_t form_len, size_t i,
+                                        sharing_entry *entry) {
+    uint32_t code = sharing_check(form, form_len);
+    if (code == SHARING_ACCEPTED && i >= sharing_word_at(form, 1))
+        code = SHARING_TORN;
+    if (code == SHARING_ACCEPTED)
+        *entry = sharing_entry_in(form, i);
+    return code;
+}
+
+/*
+ * Writes an entry of l positions as text, position 1 first, as in 01*: l characters and a zero.
+ * Refusals in order: 2; 4; 9 where text_len is below l + 1.
+ */
+SHARING_MUST_USE
+static inline uint32_t sharing_entry_text(uint32_t l, sharing_entry entry, char *text,
+                                          size_t text_len) {
+    if (l < 1 || l > SHARING_MAX_VARIABLES)
+        return SHARING_WIDTH;
+    if ((entry.care & ~sharing_variables(l)) != 0 || (entry.value & ~entry.care) != 0)
+        return SHARING_STRAY;
+    if (text_len < l + 1)
+        return SHARING_NARROW;
+    for (uint32_t i = 0; i < l; i++)
+        text[i] = entry.care >> i & 1 ? (entry.value >> i & 1 ? '1' : '0') : '*';
+    text[l] = '\0';
+    return SHARING_ACCEPTED;
+}
+
+/*
+ * Reads an entry from text_len characters, position 1 first; its l is text_len.
+ * Refusals in order: 2 where text_len is not 1 to 16; 4 where a character is none of 0, 1 and *.
+ */
+SHARING_MUST_USE
+static inline uint32_t sharing_text_entry(const char *text, size_t text_len, sharing_entry *entry) {
+    sharing_entry read = {0, 0};
+    if (text_len < 1 || text_len > SHARING_MAX_VARIABLES)
+        return SHARING_WIDTH;
+    for (size_t i = 0; i < text_len; i++) {
+        if (text[i] != '0' && text[i] != '1' && text[i] != '*')
+            return SHARING_STRAY;
+        read.care |= (uint32_t)(text[i] != '*') << i;
+        read.value |= (uint32_t)(text[i] == '1') << i;
+    }
+    *entry = read;
+    return SHARING_ACCEPTED;
+}
+
+/* ---- Forms to begin with. Refusals in order, of each: 2 where l is not 1 to 16; 9. */
+
+/* One entry of stars. As a positive table: all groups. As a negative table it has no group. */
+SHARING_MUST_USE
+static inline uint32_t sharing_all_star(uint32_t l, uint8_t *out, size_t out_len) {
+    const sharing_entry stars = {0, 0};
+    return sharing_make_form(l, &stars, 1, out, out_len);
+}
+
+/* No entry. As a positive table it has no group: all is known. As a negative table: all groups. */
+SHARING_MUST_USE
+static inline uint32_t sharing_empty(uint32_t l, uint8_t *out, size_t out_len) {
+    const sharing_entry none = {0, 0};
+    return sharing_make_form(l, &none, 0, out, out_len);
+}
+
+/* The table of all groups, of the side given: it describes any bindings whatever. */
+SHARING_MUST_USE
+static inline uint32_t sharing_unknown_form(uint32_t side, uint32_t l, uint8_t *out,
+                                            size_t out_len) {
+    return side == SHARING_POSITIVE ? sharing_all_star(l, out, out_len)
+                                    : sharing_empty(l, out, out_len);
+}
+
+/* A positive table in which every variable is free: each is a group of its own. */
+SHARING_MUST_USE
+static inline uint32_t sharing_all_free(uint32_t l, uint8_t *out, size_t out_len) {
+    sharing_entry alone[SHARING_MAX_VARIABLES];
+    if (l < 1 || l > SHARING_MAX_VARIABLES)
+        return SHARING_WIDTH;
+    for (uint32_t i = 0; i < l; i++) {
+        alone[i].care = sharing_variables(l);
+        alone[i].value = (uint32_t)1 << i;
+    }
+    return sharing_make_form(l, alone, l, out, out_len);
+}
+
+/* ---- Refusals in words */
+
+/* The word of an answer, as "torn"; "unknown" for a number that is no answer. */
+static inline const char *sharing_refusal_word(uint32_t code) {
+    static const char *const words[] = {"accepted", "torn", "width", "entries", "stray",  "name",
+                                        "term",     "long", "full",  "narrow",  "unlike", "keep"};
+    return code < sizeof words / sizeof words[0] ? words[code] : "unknown";
+}
+
+/* An answer in a few words more, as in sharing.h. */
+static inline const char *sharing_refusal_sentence(uint32_t code) {
+    static const char *const sentences[] = {"the call was accepted",
+                                            "the length is not what the sizes give",
+                                            "l is not 1 to 16",
+                                            "more than 256 entries",
+                                            "a bit above l, or a value without care",
+                                            "a variable that is not 1 to l",
+                                            "counts that do not sum up, or not one whole term",
+                                            "more than 64 equations or 1024 tokens",
+                                            "entry 257 is needed",
+                                            "the output is too short",
+                                            "two tables of different l",
+                                            "projection onto no variable, or onto one above l"};
+    return code < sizeof sentences / sizeof sentences[0] ? sentences[code]
+                                                         : "no answer of the calls";
+}
+
+/* ---- Renaming */
+
+/* The set of old variables that more than one new position takes. */
+static inline uint32_t sharing_taken_twice(const uint32_t *from, size_t from_len) {
+    uint32_t once = 0, twice = 0;
+    for (size_t j = 0; j < from_len; j++) {
+        uint32_t old = from[j] == 0 ? 0 : (uint32_t)1 << (from[j] - 1);
+        twice |= once & old;
+        once |= old;
+    }
+    return twice;
+}
+
+/* An entry at its new positions; a known position becomes 0 if `known` is 1, else a star. */
+static inline sharing_entry sharing_renamed_entry(sharing_entry entry, const uint32_t *from,
+                                                  size_t from_len, uint32_t known) {
+    sharing_entry renamed = {0, 0};
+    for (size_t j = 0; j < from_len; j++) {
+        uint32_t care = from[j] == 0 ? known : entry.care >> (from[j] - 1) & 1;
+        uint32_t value = from[j] == 0 ? 0 : entry.value >> (from[j] - 1) & 1;
+        renamed.care |= care << j;
+        renamed.value |= value << j;
+    }
+    return renamed;
+}
+
+/* The entries of a renamed positive form, into a list of 256; 257 or more where it is too short. */
+static inline size_t sharing_rename_positive(const uint8_t *table, const uint32_t *from,
+                                             size_t from_len, sharing_entry *list) {
+    size_t n = 0;
+    uint32_t twice = sharing_taken_twice(from, from_len);
+    for (size_t i = 0; i < sharing_word_at(table, 1); i++) {
+        sharing_entry entry = sharing_entry_in(table, i);
+        uint32_t split = twice & ~entry.care, ones = 0;
+        do {
+            sharing_entry half = {entry.care | split, entry.value | ones};
+            if (n >= SHARING_MAX_ENTRIES)
+                return SHARING_MAX_ENTRIES + 1;
+            list[n++] = sharing_renamed_entry(half, from, from_len, 1);
+            ones = (ones - split) & split;
+        } while (ones != 0);
+    }
+    return n;
+}
+
+/* What a negative form needs at new position j beside the renamed entries; care 0 for nothing. */
+static inline sharing_entry sharing_rename_rule(const uint32_t *from, size_t from_len, size_t j) {
+    sharing_entry rule = {0, 0};
+    size_t next = j;
+    do
+        next = next + 1 < from_len ? next + 1 : 0;
+    while (from[next] != from[j]);
+    if (from[j] != 0 && next == j)
+        return rule;
+    rule.care = rule.value = (uint32_t)1 << j;
+    if (from[j] != 0)
+        rule.care |= (uint32_t)1 << next;
+    return rule;
+}
+
+/* The entries of a renamed negative form, into a list of 256; 257 or more where it is too short. */
+static inline size_t sharing_rename_negative(const uint8_t *table, const uint32_t *from,
+                                             size_t from_len, sharing_entry *list) {
+    size_t n = 0;
+    for (size_t i = 0; i < sharing_word_at(table, 1); i++)
+        list[n++] = sharing_renamed_entry(sharing_entry_in(table, i), from, from_len, 0);
+    for (size_t j = 0; j < from_len; j++) {
+        sharing_entry rule = sharing_rename_rule(from, from_len, j);
+        if (rule.care == 0)
+            continue;
+        if (n >= SHARING_MAX_ENTRIES)
+            return SHARING_MAX_ENTRIES + 1;
+        list[n++] = rule;
+    }
+    return n;
+}
+
+/*
+ * Renames the variables of a table. The new l is from_len. New variable Xj stands for what the old
+ * variable from[j - 1] stood for; where from[j - 1] is 0, Xj is known (ground).
+ * The new groups, on either side, are exactly these: for each old group the string with, at each
+ * new position, the digit of its old variable, and 0 at a known position. So no group is lost and
+ * none is added; two new positions of one old variable are alike in every group.
+ * As a list: each entry in order. A positive entry is 0 at known positions; where it has stars at
+ * old variables that several positions take, it is written once for each choice of digits there. A
+ * negative entry has stars at known positions; after the entries follow, for positions j rising,
+ * the string with 1 at j where j is known, and the one with 1 at j and 0 at the next position of
+ * the same old variable (after the last the first) where there is another; stars elsewhere.
+ * Refusals in order: TABLE FORM; 2 where from_len is not 1 to 16; 5 where a number in from is above
+ * l; 11 where no position takes some old variable (that is a projection: sharing_select); 8 where
+ * this list has more than 256 entries; 9.
+ */
+SHARING_MUST_USE
+static inline uint32_t sharing_rename(uint32_t side, const uint8_t *table, size_t table_len,
+                                      const uint32_t *from, size_t from_len, uint8_t *out,
+                                      size_t out_len) {
+    sharing_entry list[SHARING_MAX_ENTRIES];
+    uint32_t code = sharing_check(table, table_len), taken = 0;
+    if (code != SHARING_ACCEPTED)
+        return code;
+    uint32_t l = sharing_word_at(table, 0);
+    if (from_len < 1 || from_len > SHARING_MAX_VARIABLES)
+        return SHARING_WIDTH;
+    for (size_t j = 0; j < from_len; j++)
+        if (from[j] > l)
+            return SHARING_NAME;
+    for (size_t j = 0; j < from_len; j++)
+        taken |= from[j] == 0 ? 0 : (uint32_t)1 << (from[j] - 1);
+    if (taken != sharing_variables(l))
+        return SHARING_KEEP;
+    size_t n = side == SHARING_POSITIVE ? sharing_rename_positive(table, from, from_len, list)
+                                        : sharing_rename_negative(table, from, from_len, list);
+    if (n > SHARING_MAX_ENTRIES)
+        return SHARING_FULL;
+    return sharing_make_form((uint32_t)from_len, list, n, out, out_len);
+}
+
+/*
+ * The table as some variables see it: the projection onto the variables in from, then renamed so
+ * that new variable Xj stands for the old one from[j - 1], or is known where that is 0. A variable
+ * may be named twice. This takes a caller's table to the arguments of a goal.
+ * Refusals in order: TABLE FORM; 2 where from_len is not 1 to 16; 5 where a number in from is above
+ * l; 11 where from has only zeros; 8 of sharing_project, then of sharing_rename; 9.
+ */
+SHARING_MUST_USE
+static inline uint32_t sharing_select(uint32_t side, const uint8_t *table, size_t table_len,
+                                      const uint32_t *from, size_t from_len, uint8_t *out,
+                                      size_t out_len) {
+    uint8_t kept[SHARING_MAX_FORM];
+    uint32_t rank[SHARING_MAX_VARIABLES];
+    uint32_t code = sharing_check(table, table_len), keep = 0;
+    if (code != SHARING_ACCEPTED)
+        return code;
+    if (from_len < 1 || from_len > SHARING_MAX_VARIABLES)
+        return SHARING_WIDTH;
+    for (size_t j = 0; j < from_len; j++)
+        if (from[j] > sharing_word_at(table, 0))
+            return SHARING_NAME;
+    for (size_t j = 0; j < from_len; j++)
+        keep |= from[j] == 0 ? 0 : (uint32_t)1 << (from[j] - 1);
+    for (size_t j = 0; j < from_len; j++) {
+        rank[j] = from[j] == 0 ? 0 : 1;
+        for (uint32_t i = 1; i < from[j]; i++)
+            rank[j] += keep >> (i - 1) & 1;
+    }
+    code = sharing_project(side, table, table_len, keep, kept, sizeof kept);
+    if (code != SHARING_ACCEPTED)
+        return code;
+    return sharing_rename(side, kept, sharing_front_length(kept, sizeof kept), rank, from_len, out,
+                          out_len);
+}
+
+/* ---- Goals of a clause, on positive tables. docs/COMPILER.md says why they are sound. */
+
+/*
+ * Adds `more` free variables after Xl, each a group of its own; the other groups stay as they are.
+ * Refusals in order: TABLE FORM; 2 where l + more is above 16; 8 where n + more is above 256; 9.
+ */
+SHARING_MUST_USE
+static inline uint32_t sharing_add_free(const uint8_t *table, size_t table_len, uint32_t more,
+                                        uint8_t *out, size_t out_len) {
+    sharing_entry list[SHARING_MAX_ENTRIES];
+    uint32_t code = sharing_check(table, table_len);
+    if (code != SHARING_ACCEPTED)
+        return code;
+    uint32_t l = sharing_word_at(table, 0), n = sharing_word_at(table, 1);
+    if (more > SHARING_MAX_VARIABLES - l)
+        return SHARING_WIDTH;
+    if (more > SHARING_MAX_ENTRIES - n)
+        return SHARING_FULL;
+    uint32_t all = sharing_variables(l + more), added = all & ~sharing_variables(l);
+    for (size_t i = 0; i < n; i++) {
+        list[i] = sharing_entry_in(table, i);
+        list[i].care |= added;
+    }
+    for (uint32_t i = 0; i < more; i++) {
+        list[n + i].care = all;
+        list[n + i].value = (uint32_t)1 << (l + i);
+    }
+    return sharing_make_form(l + more, list, n + more, out, out_len);
+}
+
+/* The bytes in the longest term of sharing_set_term. */
+enum { SHARING_SET_TERM = 2 * (2 * SHARING_MAX_VARIABLES + 1) };
+
+/*
+ * Writes a term that has exactly the variables of a set, for sharing_equation and sharing_step: the
+ * table after an equation depends on nothing else of the term. term has SHARING_SET_TERM bytes.
+ * Returns the length of what was written; 0, which those calls refuse 6, where the set has a bit
+ * above 16.
+ */
+static inline size_t sharing_set_term(uint32_t variables, uint8_t *term) {
+    size_t tokens = 0;
+    if ((variables & ~sharing_variables(SHARING_MAX_VARIABLES)) != 0)
+        return 0;
+    for (uint32_t x = 1; x <= SHARING_MAX_VARIABLES; x++)
+        if (variables >> (x - 1) & 1) {
+            sharing_put_word(term, tokens++, sharing_head(0, 2));
+            sharing_put_word(term, tokens++, x);
+        }
+    sharing_put_word(term, tokens++, sharing_head(0, 0));
+    return 2 * tokens;
+}
+
+/*
+ * The table after "variable = t" for any t that has exactly the variables of a set.
+ * Refusals in order: TABLE FORM; 5 where variable is not 1 to l; 5 where the set has a bit above l;
+ * 8; 9.
+ */
+SHARING_MUST_USE
+static inline uint32_t sharing_set_equation(uint32_t side, const uint8_t *table, size_t table_len,
+                                            uint32_t variable, uint32_t variables, uint8_t *out,
+                                            size_t out_len) {
+    uint8_t term[SHARING_SET_TERM];
+    uint32_t code = sharing_check(table, table_len);
+    if (code != SHARING_ACCEPTED)
+        return code;
+    if ((variables & ~sharing_variables(sharing_word_at(table, 0))) != 0)
+        return SHARING_NAME;
+    size_t term_len = sharing_set_term(variables, term);
+    return sharing_equation(side, table, table_len, variable, term, term_len, out, out_len);
+}
+
+/*
+ * The intersection of two positive tables: the groups that both have.
+ * Refusals in order: those of sharing_join.
+ * Read as negative, the forms stand for all the other groups; joined as negative ones they stand
+ * for what one of the two lacks; read as positive again, for what none of the two lacks.
+ */
+SHARING_MUST_USE
+static inline uint32_t sharing_intersect(const uint8_t *first, size_t first_len,
+                                         const uint8_t *second, size_t second_len, uint8_t *out,
+                                         size_t out_len) {
+    return sharing_join(SHARING_NEGATIVE, first, first_len, second, second_len, out, out_len);
+}
+
+/*
+ * The table after a goal of which nothing is known but the set of variables in its arguments.
+ * The new groups are those that have none of these variables, and every "or" of one or more that
+ * have some. Where the set is empty the table is read and written again.
+ * Refusals in order: TABLE FORM; 5 where the set has a bit above l; 8 where a step needs entry 257;
+ * 9.
+ * How: for each variable of the set, the equation with a term of the whole set; the join of all.
+ */
+SHARING_MUST_USE
+static inline uint32_t sharing_unknown_goal(const uint8_t *table, size_t table_len,
+                                            uint32_t variables, uint8_t *out, size_t out_len) {
+    uint8_t sum[SHARING_MAX_FORM], one[SHARING_MAX_FORM], both[SHARING_MAX_FORM];
+    uint32_t code = sharing_check(table, table_len), first = 1;
+    if (code != SHARING_ACCEPTED)
+        return code;
+    if ((variables & ~sharing_variables(sharing_word_at(table, 0))) != 0)
+        return SHARING_NAME;
+    if (variables == 0)
+        return sharing_read(table, table_len, out, out_len);
+    for (uint32_t x = 1; x <= SHARING_MAX_VARIABLES; x++) {
+        if ((variables >> (x - 1) & 1) == 0)
+            continue;
+        code = sharing_set_equation(SHARING_POSITIVE, table, table_len, x, variables,
+                                    first ? sum : one, SHARING_MAX_FORM);
+        if (code == SHARING_ACCEPTED && !first) {
+            code = sharing_join(SHARING_POSITIVE, sum, sharing_front_length(sum, sizeof sum), one,
+                                sharing_front_length(one, sizeof one), both, sizeof both);
+            memcpy(sum, both, sizeof sum);
+        }
+        if (code != SHARING_ACCEPTED)
+            return code;
+        first = 0;
+    }
+    return sharing_read(sum, sharing_front_length(sum, sizeof sum), out, out_len);
+}
+
+/* The entries of an exit form at the arguments of a goal, stars elsewhere; returns their number. */
+static inline size_t sharing_place_exit(const uint8_t *exit_form, const uint32_t *arguments,
+                                        sharing_entry *list) {
+    size_t n = 0;
+    for (size_t i = 0; i < sharing_word_at(exit_form, 1); i++) {
+        sharing_entry entry = sharing_entry_in(exit_form, i);
+        uint32_t zeros = 0, ones = 0, known_one = 0;
+        for (uint32_t j = 0; j < sharing_word_at(exit_form, 0); j++) {
+            uint32_t at = arguments[j] == 0 ? 0 : (uint32_t)1 << (arguments[j] - 1);
+            uint32_t one = entry.value >> j & 1, fixed = entry.care >> j & 1;
+            ones |= one ? at : 0;
+            zeros |= fixed && !one ? at : 0;
+            known_one |= one && at == 0;
+        }
+        if ((zeros & ones) != 0 || known_one)
+            continue;
+        list[n].care = zeros | ones;
+        list[n++].value = ones;
+    }
+    return n;
+}
+
+/* The groups of a closed table that an exit allows, and those that have none of the variables. */
+static inline uint32_t sharing_meet_exit(const uint8_t *closed, uint32_t variables,
+                                         const sharing_entry *list, size_t n, uint8_t *out,
+                                         size_t out_len) {
+    uint8_t allowed[SHARING_MAX_FORM], reached[SHARING_MAX_FORM], others[SHARING_MAX_FORM];
+    const sharing_entry apart = {variables, 0};
+    size_t closed_len = sharing_front_length(closed, SHARING_MAX_FORM);
+    uint32_t l = sharing_word_at(closed, 0);
+    uint32_t code = sharing_make_form(l, list, n, allowed, sizeof allowed);
+    if (code == SHARING_ACCEPTED)
+        code = sharing_intersect(closed, closed_len, allowed,
+                                 sharing_front_length(allowed, sizeof allowed), reached,
+                                 sizeof reached);
+    if (code == SHARING_ACCEPTED)
+        code = sharing_make_form(l, &apart, 1, allowed, sizeof allowed);
+    if (code == SHARING_ACCEPTED)
+        code = sharing_intersect(closed, closed_len, allowed,
+                                 sharing_front_length(allowed, sizeof allowed), others,
+                                 sizeof others);
+    if (code != SHARING_ACCEPTED)
+        return code;
+    return sharing_join(SHARING_POSITIVE, others, sharing_front_length(others, sizeof others),
+                        reached, sharing_front_length(reached, sizeof reached), out, out_len);
+}
+
+/*
+ * The table after a goal p(A1, ..., Ak) whose exit table is known: a positive table of k variables
+ * that describes the arguments at every exit of p, for a call table that has all groups of this
+ * call (sharing_select gives them).
+ * arguments[j] is the number of the variable that argument j + 1 is, or 0 where the argument has no
+ * variable. A variable may be named twice. An argument that is a term with variables needs a
+ * variable of its own first: sharing_add_free, then the equation.
+ * The new groups are those of sharing_unknown_goal that have none of the variables named, or whose
+ * digits at the arguments, in order and 0 for an argument that is 0, are a group of the exit table.
+ * Refusals in order: TABLE FORM of table; TABLE FORM of exit_form; 10 where arguments_len is not
+ * the l of exit_form; 5 where an argument is above the l of table; 8 where a step needs entry 257;
+ * 9.
+ */
+SHARING_MUST_USE
+static inline uint32_t sharing_known_goal(const uint8_t *table, size_t table_len,
+                                          const uint8_t *exit_form, size_t exit_len,
+                                          const uint32_t *arguments, size_t arguments_len,
+                                          uint8_t *out, size_t out_len) {
+    sharing_entry list[SHARING_MAX_ENTRIES];
+    uint8_t closed[SHARING_MAX_FORM];
+    uint32_t variables = 0, code = sharing_check(table, table_len);
+    if (code == SHARING_ACCEPTED)
+        code = sharing_check(exit_form, exit_len);
+    if (code != SHARING_ACCEPTED)
+        return code;
+    if (arguments_len != sharing_word_at(exit_form, 0))
+        return SHARING_UNLIKE;
+    for (size_t j = 0; j < arguments_len; j++) {
+        if (arguments[j] > sharing_word_at(table, 0))
+            return SHARING_NAME;
+        variables |= arguments[j] == 0 ? 0 : (uint32_t)1 << (arguments[j] - 1);
+    }
+    if (variables == 0)
+        return sharing_read(table, table_len, out, out_len);
+    code = sharing_unknown_goal(table, table_len, variables, closed, sizeof closed);
+    if (code != SHARING_ACCEPTED)
+        return code;
+    return sharing_meet_exit(closed, variables, list,
+                             sharing_place_exit(exit_form, arguments, list), out, out_len);
+}
+
+#endif

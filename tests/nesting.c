@@ -1,0 +1,155 @@
+/*
+ * The stack that a call needs, measured: it runs in a thread whose stack was filled before, and the
+ * bytes that changed are counted. Terms of several lengths in the shapes that nest deepest, and the
+ * other calls on tables that are long or have many stars. The arguments are what sharing.h says, and
+ * must not be exceeded: tokens and KiB, tokens and KiB, ..., and the KiB of any other call.
+ */
+#define _DEFAULT_SOURCE
+#include <sharing_util.h>
+
+#include <pthread.h>
+#include <stdio.h>
+#include <stdlib.h>
+
+enum { STACK = 1 << 20, FILL = 0x5a, KIB = 1024, UTIL = 16 };
+
+/* The input and the output of the call that is measured. */
+static uint8_t table[SHARING_MAX_FORM], other[SHARING_MAX_FORM], out[SHARING_MAX_FORM];
+static uint8_t term[2 * SHARING_MAX_TOKENS], equations[8 + 2 * SHARING_MAX_TOKENS];
+static size_t table_len, term_len;
+static uint32_t side, code, answer;
+static sharing_running state;
+static int number;
+
+/* The calls with a term, the others, and functions of sharing_util.h. */
+enum { EQUATION, RUN, STEP, WITH_TERM };
+enum { READ = WITH_TERM, CONVERT, SIDES, JOIN, PROJECT, EQUAL, GROUND, INDEPENDENT, START, WRITE,
+       WITHOUT_TERM };
+enum { SELECT = WITHOUT_TERM, UNKNOWN, KNOWN, CALLS };
+
+/* The call by its number. */
+static void *call(void *unused) {
+    static const uint32_t words[] = {1, 2, 3, 4, 5, 6, 7, 8, 9, 10, 11, 12, 13, 14, 15, 16};
+    const uint8_t *t = table;
+    size_t n = table_len, o = sizeof out;
+    switch (number) {
+    case EQUATION: code = sharing_equation(side, t, n, 1, term, term_len, out, o); break;
+    case RUN: state = sharing_run(side, t, n, equations, 8 + term_len); code = state.code; break;
+    case STEP: code = sharing_step(&state, 1, term, term_len); break;
+    case READ: code = sharing_read(t, n, out, o); break;
+    case CONVERT: code = sharing_convert(16, words, 16, out, o); break;
+    case SIDES: code = sharing_change_side(side, t, n, out, o); break;
+    case JOIN: code = sharing_join(side, t, n, t, n, out, o); break;
+    case PROJECT: code = sharing_project(side, t, n, 3, out, o); break;
+    case EQUAL: code = sharing_equal(t, n, t, n, &answer); break;
+    case GROUND: code = sharing_ground(side, t, n, 1, &answer); break;
+    case INDEPENDENT: code = sharing_independent(side, t, n, 0x5555, 0xaaaa, &answer); break;
+    case START: state = sharing_start(side, t, n); code = state.code; break;
+    case WRITE: code = sharing_write(&state, out, o); break;
+    case SELECT: code = sharing_select(side, t, n, words, 16, out, o); break;
+    case UNKNOWN: code = sharing_unknown_goal(t, n, 0xffff, out, o); break;
+    default: code = sharing_known_goal(t, n, other, n, words, 16, out, o); break;
+    }
+    return unused;
+}
+
+/* The bytes of stack that the call changed. */
+static size_t measured(unsigned char *stack) {
+    pthread_attr_t attributes;
+    pthread_t thread;
+    size_t kept = 0;
+    memset(stack, FILL, STACK);
+    if (pthread_attr_init(&attributes) != 0 ||
+        pthread_attr_setstack(&attributes, stack, STACK) != 0 ||
+        pthread_create(&thread, &attributes, call, NULL) != 0 || pthread_join(thread, NULL) != 0)
+        exit(EXIT_FAILURE);
+    while (kept < STACK && stack[kept] == FILL)
+        kept++;
+    return STACK - kept;
+}
+
+/* Heads of `arity` arguments, all of them X1 but the last, which nests: so many tokens in all. */
+static void nest(size_t tokens, uint32_t arity) {
+    size_t first = (tokens - 1) % arity;
+    for (size_t i = 0; i < tokens; i++) {
+        uint32_t head = i < first ? 1 : (i - first) % arity == 0 ? arity : 0;
+        uint32_t token = head != 0 && i + 1 < tokens ? sharing_head(0, head) : 1;
+        sharing_put_word(term, i, token);
+        sharing_put_word(equations, 4 + i, token);
+    }
+    term_len = 2 * tokens;
+    sharing_put_word(equations, 0, 1);
+    sharing_put_word(equations, 1, (uint32_t)tokens);
+    sharing_put_word(equations, 2, 1);
+    sharing_put_word(equations, 3, (uint32_t)tokens);
+}
+
+/* The most that a call with a term of so many tokens needs, in any shape, on either side. */
+static size_t most_with_term(unsigned char *stack, size_t tokens) {
+    size_t most = 0;
+    for (uint32_t arity = 1; arity <= 15; arity++)
+        for (side = 0; side < 2; side++)
+            for (number = 0; number < WITH_TERM; number++) {
+                nest(tokens, arity);
+                state = sharing_start(side, table, table_len);
+                size_t used = measured(stack);
+                if (code != SHARING_ACCEPTED) {
+                    printf("%u tokens are refused %u\n", (unsigned)tokens, (unsigned)code);
+                    exit(EXIT_FAILURE);
+                }
+                most = used > most ? used : most;
+            }
+    return most;
+}
+
+/* The most that the calls first to last without a term need, over tables of many kinds. */
+static size_t most_without(unsigned char *stack, int first, int last) {
+    size_t most = 0;
+    for (uint32_t kind = 0; kind < 6; kind++) {
+        sharing_entry entries[SHARING_MAX_ENTRIES];
+        uint32_t n = kind % 3 == 0 ? 256 : kind % 3 == 1 ? 16 : 1, next = 15;
+        for (uint32_t i = 0; i < n; i++) {
+            next = next * 1664525u + 1013904223u;
+            entries[i].care = (kind < 3 ? next >> 16 & next >> 8 : next >> 16 | next >> 8) & 0xffff;
+            entries[i].value = entries[i].care & next >> 12;
+        }
+        if (sharing_make_form(16, entries, n, table, sizeof table) != SHARING_ACCEPTED)
+            exit(EXIT_FAILURE);
+        table_len = sharing_form_length(n);
+        memcpy(other, table, sizeof table);
+        for (side = 0; side < 2; side++)
+            for (number = first; number < last; number++) {
+                state = sharing_start(side, table, table_len);
+                size_t used = measured(stack);
+                most = used > most ? used : most;
+            }
+    }
+    return most;
+}
+
+/* Prints a measure, and tells one that is above what is said. */
+static int within(const char *what, size_t most, size_t said) {
+    printf("%s: %u bytes, said %u KiB\n", what, (unsigned)most, (unsigned)said);
+    return most <= said * KIB;
+}
+
+int main(int count, char **words) {
+    unsigned char *stack = NULL;
+    int good = count > 2 && count % 2 == 0, i;
+    if (posix_memalign((void **)&stack, 4096, STACK) != 0 ||
+        sharing_all_star(16, table, sizeof table) != SHARING_ACCEPTED)
+        return EXIT_FAILURE;
+    table_len = sharing_form_length(1);
+    for (i = 1; i + 1 < count; i += 2) {
+        size_t tokens = (size_t)atoi(words[i]), said = (size_t)atoi(words[i + 1]);
+        char what[32];
+        sprintf(what, "%u tokens", (unsigned)tokens);
+        good = within(what, most_with_term(stack, tokens), said) && good;
+    }
+    good = good && within("other calls", most_without(stack, WITH_TERM, WITHOUT_TERM),
+                          (size_t)atoi(words[count - 1]));
+    good = good && within("goals", most_without(stack, WITHOUT_TERM, CALLS),
+                          (size_t)atoi(words[2]) + UTIL);
+    free(stack);
+    return good ? EXIT_SUCCESS : EXIT_FAILURE;
+}

@@ -1,0 +1,671 @@
+/*
+ * sharing_util.h, function by function: against the calls of sharing.h, and for few variables
+ * against lists of all groups. A set of groups is a word here: bit s is for the string s, whose
+ * bit i - 1 is for Xi. After a refusal the outputs must be as they were. C99 and C++.
+ */
+#include <sharing_util.h>
+
+#include <stdio.h>
+#include <stdlib.h>
+
+#define COUNT(array) (sizeof(array) / sizeof((array)[0]))
+#define HOLDS(fact) holds_at(__LINE__, fact)
+#define REFUSED(due, code) refused_at(__LINE__, due, code)
+
+enum { FILL = 0x5a, ROUNDS = 3000, SMALL = 4 };
+
+static uint8_t out[SHARING_MAX_FORM];
+static unsigned cases, failures;
+
+/* Counts a case, and tells one that does not hold. */
+static void holds_at(int line, int holds) {
+    cases++;
+    if (!holds && failures++ < 20)
+        printf("util.c:%d does not hold\n", line);
+}
+
+/* The answer is the number due and, if that is a refusal, the output is as it was. */
+static void refused_at(int line, uint32_t due, uint32_t code) {
+    int kept = 1;
+    for (size_t i = 0; i < sizeof out; i++)
+        kept = kept && out[i] == FILL;
+    holds_at(line, code == due && (due == SHARING_ACCEPTED || kept));
+    memset(out, FILL, sizeof out);
+}
+
+/* The next random number below a bound, of a fixed sequence. */
+static uint32_t any(uint32_t bound) {
+    static uint64_t state = 15;
+    state = state * 6364136223846793005u + 1442695040888963407u;
+    return (uint32_t)(state >> 33) % bound;
+}
+
+/* A form with room, and its length. */
+typedef struct { uint8_t bytes[SHARING_MAX_FORM]; size_t len; } form;
+
+/* What was just written to out, with its length; out is filled again. */
+static form taken(void) {
+    form made;
+    memcpy(made.bytes, out, sizeof out);
+    made.len = 4 + 4 * (size_t)(out[2] | out[3] << 8);
+    memset(out, FILL, sizeof out);
+    return made;
+}
+
+static void put(form *made, size_t place, uint32_t word) {
+    made->bytes[2 * place] = (uint8_t)(word & 0xff);
+    made->bytes[2 * place + 1] = (uint8_t)(word >> 8);
+}
+
+/* A random form of l variables and n entries; one in four digits is a star, or all kinds alike. */
+static form random_form(uint32_t l, uint32_t n) {
+    form made;
+    uint32_t mask = (1u << l) - 1, dense = any(2);
+    memset(&made, 0, sizeof made);
+    put(&made, 0, l);
+    put(&made, 1, n);
+    for (uint32_t i = 0; i < n; i++) {
+        uint32_t care = dense ? any(0x10000) | any(0x10000) : any(0x10000);
+        put(&made, 2 + i, care & mask);
+        put(&made, 2 + n + i, care & mask & any(0x10000));
+    }
+    made.len = 4 + 4 * n;
+    return made;
+}
+
+/* The groups of a table, by looking at every string. */
+static uint32_t groups_of(uint32_t side, const form *table) {
+    uint32_t l = table->bytes[0], n = table->bytes[2] | (uint32_t)table->bytes[3] << 8, groups = 0;
+    for (uint32_t s = 1; s < 1u << l; s++) {
+        int covered = 0;
+        for (uint32_t i = 0; i < n; i++) {
+            const uint8_t *care = table->bytes + 4 + 2 * i, *value = care + 2 * n;
+            covered = covered || (s & (care[0] | (uint32_t)care[1] << 8)) ==
+                                     (value[0] | (uint32_t)value[1] << 8);
+        }
+        groups |= (uint32_t)(covered == (side == SHARING_POSITIVE)) << s;
+    }
+    return groups;
+}
+
+/* Does sharing_equal find the same groups in two tables? */
+static int equal(const form *first, const form *second) {
+    uint32_t answer = 7;
+    return sharing_equal(first->bytes, first->len, second->bytes, second->len, &answer) == 0 &&
+           answer == 1;
+}
+
+/* ---- Lengths, forms and entries */
+
+/* The length by number of entries is the one that sharing_read takes, and no other. */
+static void lengths(void) {
+    static uint8_t zeros[SHARING_MAX_FORM + 8];
+    for (uint32_t n = 0; n <= SHARING_MAX_ENTRIES + 1; n++) {
+        size_t length = sharing_form_length(n);
+        zeros[0] = 1;
+        zeros[2] = (uint8_t)(n & 0xff);
+        zeros[3] = (uint8_t)(n >> 8);
+        for (size_t at = 0; at < sizeof zeros; at++) {
+            uint32_t code = sharing_read(zeros, at, out, sizeof out);
+            HOLDS((code == SHARING_ACCEPTED) == (n <= SHARING_MAX_ENTRIES && at == length));
+        }
+    }
+    HOLDS(sharing_form_length(SHARING_MAX_ENTRIES) == SHARING_MAX_FORM);
+    HOLDS(sharing_form_length(SHARING_MAX_ENTRIES + 1) == 0 && sharing_form_length(70000) == 0);
+    memset(out, FILL, sizeof out);
+}
+
+/* A form, often with one fault or cut short or followed by more, and its length as given. */
+static form doubtful_form(void) {
+    form made = random_form(1 + any(16), any(6));
+    if (any(3) == 0)
+        made.bytes[any(4)] = (uint8_t)(any(3) * 8);
+    if (any(3) == 0)
+        made.bytes[any((uint32_t)made.len)] ^= (uint8_t)(1u << any(8));
+    if (any(2) == 0)
+        made.len = any(32);
+    return made;
+}
+
+/* The check answers as sharing_read does, the front length as sharing_smaller. */
+static void doubtful_forms(void) {
+    unsigned seen[SHARING_KEEP + 1] = {0};
+    for (int round = 0; round < 20 * ROUNDS; round++) {
+        form one = doubtful_form(), copy = one;
+        sharing_part part = {one.bytes, 0};
+        uint32_t code = sharing_read(one.bytes, one.len, out, sizeof out);
+        HOLDS(sharing_check(one.bytes, one.len) == code);
+        sharing_smaller(one.bytes, one.len, copy.bytes, copy.len, &part);
+        HOLDS(sharing_front_length(one.bytes, one.len) == part.len);
+        seen[code]++;
+        memset(out, FILL, sizeof out);
+    }
+    HOLDS(seen[SHARING_ACCEPTED] && seen[SHARING_TORN] && seen[SHARING_WIDTH] &&
+          seen[SHARING_ENTRIES] && seen[SHARING_STRAY]);
+}
+
+/* A form made from entries is the bytes of the rule, and gives them back; sharing_start agrees. */
+static void made_forms(void) {
+    for (int round = 0; round < ROUNDS; round++) {
+        uint32_t l = 1 + any(16), n = any(8) == 0 ? 256 : any(6);
+        form due = random_form(l, n);
+        sharing_entry entries[SHARING_MAX_ENTRIES], entry = {9, 9};
+        for (uint32_t i = 0; i < n; i++)
+            HOLDS(sharing_entry_at(due.bytes, due.len, i, &entries[i]) == 0);
+        REFUSED(SHARING_TORN, sharing_entry_at(due.bytes, due.len, n, &entry));
+        HOLDS(entry.care == 9 && entry.value == 9);
+        REFUSED(SHARING_NARROW, sharing_make_form(l, entries, n, out, due.len - 1));
+        HOLDS(sharing_make_form(l, entries, n, out, due.len) == 0);
+        HOLDS(memcmp(out, due.bytes, due.len) == 0 && (n == 256 || out[due.len] == FILL));
+        form made = taken();
+        HOLDS(sharing_front_length(made.bytes, sizeof made.bytes) == due.len);
+        HOLDS(sharing_read(made.bytes, made.len, out, sizeof out) == 0);
+        form read = taken();
+        sharing_running state = sharing_start(0, read.bytes, read.len);
+        HOLDS(state.code == 0);
+        for (uint32_t i = 0; i < state.table.n; i++)
+            HOLDS(sharing_entry_at(read.bytes, read.len, i, &entry) == 0 &&
+                  entry.care == state.table.care[i] && entry.value == state.table.value[i]);
+    }
+}
+
+/* Each refusal of making a form and of taking an entry out, with the later faults beside it. */
+static void refused_forms(void) {
+    sharing_entry stray = {1u << 16, 0}, above = {8, 0}, no_care = {1, 2}, good = {7, 1};
+    sharing_entry kept = good;
+    sharing_entry many[SHARING_MAX_ENTRIES + 1];
+    const uint8_t wide[] = {17, 0, 9, 9}, loose[] = {2, 0, 1, 0, 1, 0, 2, 0};
+    for (size_t i = 0; i < COUNT(many); i++)
+        many[i] = stray;
+    REFUSED(SHARING_WIDTH, sharing_make_form(0, many, 257, out, 0));
+    REFUSED(SHARING_WIDTH, sharing_make_form(17, many, 257, out, 0));
+    REFUSED(SHARING_ENTRIES, sharing_make_form(3, many, 257, out, 0));
+    REFUSED(SHARING_STRAY, sharing_make_form(3, &stray, 1, out, 0));
+    REFUSED(SHARING_STRAY, sharing_make_form(3, &above, 1, out, 0));
+    REFUSED(SHARING_STRAY, sharing_make_form(3, &no_care, 1, out, 0));
+    REFUSED(SHARING_NARROW, sharing_make_form(3, &good, 1, out, 7));
+    REFUSED(SHARING_WIDTH, sharing_entry_at(wide, sizeof wide, 9, &kept));
+    REFUSED(SHARING_STRAY, sharing_entry_at(loose, sizeof loose, 9, &kept));
+    HOLDS(kept.care == good.care && kept.value == good.value);
+    HOLDS(sharing_front_length(wide, 0) == 0 && sharing_front_length(wide, 3) == 0);
+}
+
+/* An entry of l positions by its number in base 3, and its text. */
+static sharing_entry numbered(uint32_t number, uint32_t l, char *text) {
+    sharing_entry entry = {0, 0};
+    for (uint32_t i = 0; i < l; i++, number /= 3) {
+        text[i] = "01*"[number % 3];
+        entry.care |= (uint32_t)(number % 3 != 2) << i;
+        entry.value |= (uint32_t)(number % 3 == 1) << i;
+    }
+    text[l] = '\0';
+    return entry;
+}
+
+/* Every entry of at most 8 positions, and some of 16, to text and back. */
+static void texts(void) {
+    char due[20], text[20];
+    for (uint32_t l = 1; l <= SHARING_MAX_VARIABLES; l++) {
+        uint32_t all = 1;
+        for (uint32_t i = 0; i < l; i++)
+            all *= 3;
+        for (uint32_t round = 0; round < (l <= 8 ? all : (uint32_t)ROUNDS); round++) {
+            sharing_entry entry = numbered(l <= 8 ? round : any(all), l, due), back = {9, 9};
+            memset(text, FILL, sizeof text);
+            HOLDS(sharing_entry_text(l, entry, text, l) == SHARING_NARROW && text[0] == FILL);
+            HOLDS(sharing_entry_text(l, entry, text, l + 1) == 0 && strcmp(text, due) == 0);
+            HOLDS(text[l + 1] == FILL);
+            HOLDS(sharing_text_entry(text, l, &back) == 0);
+            HOLDS(back.care == entry.care && back.value == entry.value);
+        }
+    }
+}
+
+/* Each refusal of text, with the later faults beside it; nothing is written. */
+static void refused_texts(void) {
+    sharing_entry above = {8, 0}, no_care = {1, 2}, back = {9, 9};
+    char text[8] = "as was";
+    HOLDS(sharing_entry_text(0, above, text, 0) == SHARING_WIDTH);
+    HOLDS(sharing_entry_text(17, above, text, 0) == SHARING_WIDTH);
+    HOLDS(sharing_entry_text(3, above, text, 0) == SHARING_STRAY);
+    HOLDS(sharing_entry_text(3, no_care, text, 0) == SHARING_STRAY);
+    HOLDS(strcmp(text, "as was") == 0);
+    HOLDS(sharing_text_entry("2", 0, &back) == SHARING_WIDTH);
+    HOLDS(sharing_text_entry("0101010101010101O", 17, &back) == SHARING_WIDTH);
+    for (int c = 0; c < 256; c++) {
+        char one[3] = {'0', (char)c, '*'};
+        int good = c == '0' || c == '1' || c == '*';
+        back.care = back.value = 9;
+        HOLDS((sharing_text_entry(one, 3, &back) == SHARING_STRAY) == !good);
+        HOLDS(good || (back.care == 9 && back.value == 9));
+    }
+}
+
+/* ---- Forms to begin with */
+
+static void first_forms(void) {
+    const uint32_t alone[] = {1,     2,     4,      8,      16,     32,     64,     128,
+                              1 << 8, 1 << 9, 1 << 10, 1 << 11, 1 << 12, 1 << 13, 1 << 14, 1 << 15};
+    for (uint32_t l = 1; l <= SHARING_MAX_VARIABLES; l++) {
+        uint32_t answer = 7, all = sharing_variables(l);
+        HOLDS(sharing_all_star(l, out, 8) == 0);
+        form stars = taken();
+        HOLDS(sharing_empty(l, out, 4) == 0);
+        form empty = taken();
+        HOLDS(sharing_all_free(l, out, 4 + 4 * l) == 0);
+        form made = taken();
+        HOLDS(sharing_convert(l, alone, l, out, sizeof out) == 0);
+        form converted = taken();
+        HOLDS(equal(&made, &converted));
+        for (uint32_t x = 1; x <= l; x++) {
+            HOLDS(sharing_independent(0, made.bytes, made.len, alone[x - 1], all & ~alone[x - 1],
+                                      &answer) == 0 && answer == 1);
+            HOLDS(sharing_ground(0, made.bytes, made.len, x, &answer) == 0 && answer == 0);
+            HOLDS(sharing_ground(0, empty.bytes, empty.len, x, &answer) == 0 && answer == 1);
+            HOLDS(sharing_ground(1, stars.bytes, stars.len, x, &answer) == 0 && answer == 1);
+            for (uint32_t y = 1; y <= l; y++)
+                HOLDS(sharing_independent(0, stars.bytes, stars.len, alone[x - 1], alone[y - 1],
+                                          &answer) == 0 && answer == 0);
+        }
+        HOLDS(sharing_change_side(0, stars.bytes, stars.len, out, sizeof out) == 0);
+        form other = taken();
+        HOLDS(equal(&other, &empty));
+        HOLDS(sharing_unknown_form(0, l, out, 8) == 0 && memcmp(out, stars.bytes, 8) == 0);
+        HOLDS(sharing_unknown_form(1, l, out, 4) == 0 && memcmp(out, empty.bytes, 4) == 0);
+        HOLDS(sharing_unknown_form(7, l, out, 4) == 0 && memcmp(out, empty.bytes, 4) == 0);
+        memset(out, FILL, sizeof out);
+        REFUSED(SHARING_NARROW, sharing_all_star(l, out, 7));
+        REFUSED(SHARING_NARROW, sharing_empty(l, out, 3));
+        REFUSED(SHARING_NARROW, sharing_all_free(l, out, 4 + 4 * l - 1));
+        REFUSED(SHARING_NARROW, sharing_unknown_form(0, l, out, 7));
+        REFUSED(SHARING_NARROW, sharing_unknown_form(1, l, out, 3));
+    }
+    for (uint32_t l = 0; l <= 17; l += 17) {
+        REFUSED(SHARING_WIDTH, sharing_all_star(l, out, 0));
+        REFUSED(SHARING_WIDTH, sharing_empty(l, out, 0));
+        REFUSED(SHARING_WIDTH, sharing_all_free(l, out, 0));
+        REFUSED(SHARING_WIDTH, sharing_unknown_form(l, l, out, 0));
+    }
+}
+
+/* ---- Renaming */
+
+/* The string that a new position reads off an old one. */
+static uint32_t renamed(uint32_t s, const uint32_t *from, size_t from_len) {
+    uint32_t made = 0;
+    for (size_t j = 0; j < from_len; j++)
+        made |= (from[j] == 0 ? 0 : s >> (from[j] - 1) & 1) << j;
+    return made;
+}
+
+/* The images of a set of groups; all zero is no group. */
+static uint32_t images(uint32_t groups, uint32_t l, const uint32_t *from, size_t from_len) {
+    uint32_t made = 0;
+    for (uint32_t s = 1; s < 1u << l; s++)
+        if (groups >> s & 1)
+            made |= 1u << renamed(s, from, from_len);
+    return made & ~1u;
+}
+
+/* Renaming and selecting one form on one side by one map, against the images of its groups. */
+static void rename_one(uint32_t side, const form *table, const uint32_t *from, size_t from_len) {
+    uint32_t l = table->bytes[0], taken_set = 0, groups = groups_of(side, table);
+    for (size_t j = 0; j < from_len; j++)
+        taken_set |= from[j] == 0 ? 0 : 1u << (from[j] - 1);
+    uint32_t code =
+        sharing_rename(side, table->bytes, table->len, from, from_len, out, sizeof out);
+    REFUSED(taken_set == sharing_variables(l) ? SHARING_ACCEPTED : SHARING_KEEP, code);
+    code = sharing_rename(side, table->bytes, table->len, from, from_len, out, sizeof out);
+    if (code == SHARING_ACCEPTED) {
+        form made = taken();
+        HOLDS(groups_of(side, &made) == images(groups, l, from, from_len));
+        HOLDS(made.bytes[0] == from_len && sharing_check(made.bytes, made.len) == 0);
+        REFUSED(SHARING_NARROW, sharing_rename(side, table->bytes, table->len, from, from_len, out,
+                                               made.len - 1));
+    }
+    code = sharing_select(side, table->bytes, table->len, from, from_len, out, sizeof out);
+    if (taken_set == 0) {
+        REFUSED(SHARING_KEEP, code);
+        return;
+    }
+    HOLDS(code == SHARING_ACCEPTED);
+    form seen = taken();
+    HOLDS(groups_of(side, &seen) == images(groups, l, from, from_len));
+}
+
+/* Every map of 1 to 3 old onto 1 to 4 new variables, on random forms of either side. */
+static void every_map(void) {
+    for (uint32_t l = 1; l <= 3; l++)
+        for (size_t from_len = 1; from_len <= SMALL; from_len++) {
+            uint32_t maps = 1, from[SMALL];
+            for (size_t j = 0; j < from_len; j++)
+                maps *= l + 1;
+            for (uint32_t map = 0; map < maps; map++) {
+                uint32_t rest = map;
+                for (size_t j = 0; j < from_len; j++, rest /= l + 1)
+                    from[j] = rest % (l + 1);
+                for (int round = 0; round < 8; round++) {
+                    form table = random_form(l, any(5));
+                    rename_one((uint32_t)round & 1, &table, from, from_len);
+                }
+            }
+        }
+}
+
+/* Sixteen variables in another order and back are the same table. */
+static void wide_maps(void) {
+    for (int round = 0; round < ROUNDS / 10; round++) {
+        uint32_t side = any(2), order[16], back[16], answer = 7;
+        form table = random_form(16, any(12));
+        for (uint32_t i = 0; i < 16; i++)
+            order[i] = i + 1;
+        for (uint32_t i = 15; i > 0; i--) {
+            uint32_t j = any(i + 1), swap = order[i];
+            order[i] = order[j];
+            order[j] = swap;
+        }
+        for (uint32_t i = 0; i < 16; i++)
+            back[order[i] - 1] = i + 1;
+        HOLDS(sharing_rename(side, table.bytes, table.len, order, 16, out, sizeof out) == 0);
+        form moved = taken();
+        uint32_t x = 1 + any(16), ground = 8;
+        HOLDS(sharing_ground(side, table.bytes, table.len, order[x - 1], &ground) == 0);
+        HOLDS(sharing_ground(side, moved.bytes, moved.len, x, &answer) == 0 && answer == ground);
+        HOLDS(sharing_rename(side, moved.bytes, moved.len, back, 16, out, sizeof out) == 0);
+        form again = taken();
+        HOLDS(again.len == table.len && memcmp(again.bytes, table.bytes, table.len) == 0);
+    }
+}
+
+/* Selecting variables in rising order is the projection, a full one too. */
+static void projections(void) {
+    unsigned full = 0;
+    for (int round = 0; round < ROUNDS / 4; round++) {
+        uint32_t side = any(2), l = 1 + any(16), keep = 1 + any(sharing_variables(l)), rising[16];
+        size_t kept = 0;
+        form table = random_form(l, any(12)), cut;
+        for (uint32_t i = 0; i < l; i++)
+            if (keep >> i & 1)
+                rising[kept++] = i + 1;
+        memset(cut.bytes, FILL, sizeof cut.bytes);
+        uint32_t due =
+            sharing_project(side, table.bytes, table.len, keep, cut.bytes, sizeof cut.bytes);
+        HOLDS(sharing_select(side, table.bytes, table.len, rising, kept, out, sizeof out) == due);
+        HOLDS(memcmp(out, cut.bytes, sizeof out) == 0);
+        memset(out, FILL, sizeof out);
+        full += due == SHARING_FULL;
+    }
+    HOLDS(full > 0 && full < ROUNDS / 8);
+}
+
+/* A known position is ground, and a variable taken twice projects back to the table. */
+static void maps_and_questions(void) {
+    for (int round = 0; round < ROUNDS; round++) {
+        uint32_t side = any(2), l = 1 + any(8), from[16], answer = 7;
+        form table = random_form(l, any(8));
+        for (uint32_t i = 0; i < l; i++)
+            from[i] = i + 1;
+        from[l] = 1 + any(l);
+        from[l + 1] = 0;
+        HOLDS(sharing_rename(side, table.bytes, table.len, from, l + 2, out, sizeof out) == 0);
+        form made = taken();
+        HOLDS(sharing_ground(side, made.bytes, made.len, l + 2, &answer) == 0 && answer == 1);
+        uint32_t keep = (sharing_variables(l) & ~(1u << (from[l] - 1))) | 1u << l;
+        HOLDS(sharing_project(side, made.bytes, made.len, sharing_variables(l), out, sizeof out) ==
+              0);
+        form first = taken();
+        HOLDS(equal(&first, &table));
+        HOLDS(sharing_project(side, made.bytes, made.len, keep, out, sizeof out) == 0);
+        form second = taken();
+        for (uint32_t i = 0; i < l; i++)
+            from[i] = i + 1 == from[l] ? l : i + 1 < from[l] ? i + 1 : i;
+        HOLDS(sharing_rename(side, second.bytes, second.len, from, l, out, sizeof out) == 0);
+        second = taken();
+        HOLDS(equal(&second, &table));
+    }
+}
+
+/* Each refusal of renaming and selecting, with the later faults beside it; full exactly at 257. */
+static void refused_maps(void) {
+    const uint8_t loose[] = {2, 0, 1, 0, 1, 0, 2, 0}, two[] = {2, 0, 0, 0};
+    const uint32_t bad[] = {3, 1}, once[] = {1}, none[] = {0};
+    const uint32_t twice[] = {1, 2, 3, 4, 5, 6, 7, 8, 8}, known[] = {1, 2, 3, 4, 5, 6, 7, 8, 0};
+    for (uint32_t side = 0; side < 2; side++) {
+        REFUSED(SHARING_STRAY, sharing_rename(side, loose, sizeof loose, bad, 17, out, 0));
+        REFUSED(SHARING_WIDTH, sharing_rename(side, two, 4, bad, 0, out, 0));
+        REFUSED(SHARING_WIDTH, sharing_rename(side, two, 4, bad, 17, out, 0));
+        REFUSED(SHARING_NAME, sharing_rename(side, two, 4, bad, 2, out, 0));
+        REFUSED(SHARING_KEEP, sharing_rename(side, two, 4, once, 1, out, 0));
+        REFUSED(SHARING_STRAY, sharing_select(side, loose, sizeof loose, bad, 17, out, 0));
+        REFUSED(SHARING_WIDTH, sharing_select(side, two, 4, bad, 0, out, 0));
+        REFUSED(SHARING_WIDTH, sharing_select(side, two, 4, bad, 17, out, 0));
+        REFUSED(SHARING_NAME, sharing_select(side, two, 4, bad, 2, out, 0));
+        REFUSED(SHARING_KEEP, sharing_select(side, two, 4, none, 1, out, 0));
+        REFUSED(SHARING_NARROW, sharing_select(side, two, 4, once, 1, out, 3));
+    }
+    for (uint32_t n = 0; n <= SHARING_MAX_ENTRIES; n++) {
+        form table = random_form(8, n);
+        uint32_t list = 0;
+        for (uint32_t i = 0; i < n; i++)
+            list += table.bytes[4 + 2 * i] >> 7 & 1 ? 1 : 2;
+        REFUSED(list > 256 ? SHARING_FULL : SHARING_NARROW,
+                sharing_rename(0, table.bytes, table.len, twice, 9, out, 0));
+        REFUSED(n > 254 ? SHARING_FULL : SHARING_NARROW,
+                sharing_rename(1, table.bytes, table.len, twice, 9, out, 0));
+        REFUSED(SHARING_NARROW, sharing_rename(0, table.bytes, table.len, known, 9, out, 0));
+        REFUSED(n > 255 ? SHARING_FULL : SHARING_NARROW,
+                sharing_rename(1, table.bytes, table.len, known, 9, out, 0));
+    }
+}
+
+/* ---- Goals */
+
+/* Every "or" of one or more strings of a set. */
+static uint32_t closed(uint32_t groups) {
+    for (uint32_t before = 0; before != groups;) {
+        before = groups;
+        for (uint32_t s = 0; s < 1u << SMALL; s++)
+            for (uint32_t t = 0; t < s; t++)
+                if (before >> s & before >> t & 1)
+                    groups |= 1u << (s | t);
+    }
+    return groups;
+}
+
+/* The groups of a set that meet some variables. */
+static uint32_t meeting(uint32_t groups, uint32_t variables) {
+    uint32_t found = 0;
+    for (uint32_t s = 0; s < 1u << SMALL; s++)
+        if ((s & variables) != 0)
+            found |= groups & 1u << s;
+    return found;
+}
+
+/* Further variables: the groups stay, and each new one is a group of its own. */
+static void free_variables(void) {
+    const uint8_t loose[] = {2, 0, 1, 0, 1, 0, 2, 0};
+    for (int round = 0; round < ROUNDS; round++) {
+        uint32_t l = 1 + any(SMALL), more = any(SMALL + 1 - l), due;
+        form table = random_form(l, any(5));
+        due = groups_of(0, &table);
+        for (uint32_t i = 0; i < more; i++)
+            due |= 1u << (1u << (l + i));
+        HOLDS(sharing_add_free(table.bytes, table.len, more, out, sizeof out) == 0);
+        form made = taken();
+        HOLDS(made.bytes[0] == l + more && groups_of(0, &made) == due);
+        REFUSED(SHARING_NARROW,
+                sharing_add_free(table.bytes, table.len, more, out, made.len - 1));
+    }
+    form most = random_form(14, 255);
+    REFUSED(SHARING_STRAY, sharing_add_free(loose, sizeof loose, 99, out, 0));
+    REFUSED(SHARING_WIDTH, sharing_add_free(most.bytes, most.len, 3, out, 0));
+    REFUSED(SHARING_WIDTH, sharing_add_free(most.bytes, most.len, UINT32_MAX, out, 0));
+    REFUSED(SHARING_FULL, sharing_add_free(most.bytes, most.len, 2, out, 0));
+    REFUSED(SHARING_NARROW, sharing_add_free(most.bytes, most.len, 1, out, 0));
+}
+
+/* A random term with exactly the variables of a set; returns its length. */
+static size_t random_term(uint32_t variables, uint8_t *term) {
+    size_t tokens = 0;
+    for (uint32_t x = 1; x <= SHARING_MAX_VARIABLES; x++)
+        for (uint32_t times = variables >> (x - 1) & 1 ? 1 + any(3) : 0; times > 0; times--) {
+            if (any(2))
+                sharing_put_word(term, tokens++, sharing_head(any(2048), 1));
+            sharing_put_word(term, tokens++, sharing_head(any(2048), 3));
+            sharing_put_word(term, tokens++, x);
+            sharing_put_word(term, tokens++, sharing_head(any(2048), 0));
+        }
+    sharing_put_word(term, tokens++, sharing_head(any(2048), 0));
+    return 2 * tokens;
+}
+
+/* The table after an equation depends on the variables of the term alone: not on its symbols. */
+static void set_terms(void) {
+    uint8_t term[400], set[SHARING_SET_TERM];
+    const uint8_t loose[] = {2, 0, 1, 0, 1, 0, 2, 0};
+    for (int round = 0; round < ROUNDS; round++) {
+        uint32_t side = any(2), l = 1 + any(6), x = 1 + any(l), variables = any(1u << l);
+        form table = random_form(l, any(6));
+        size_t len = random_term(variables, term);
+        uint32_t code =
+            sharing_equation(side, table.bytes, table.len, x, term, len, out, sizeof out);
+        HOLDS(code == 0);
+        form due = taken();
+        len = sharing_set_term(variables, set);
+        code = sharing_equation(side, table.bytes, table.len, x, set, len, out, sizeof out);
+        HOLDS(code == 0 && memcmp(out, due.bytes, due.len) == 0);
+        memset(out, FILL, sizeof out);
+        code = sharing_set_equation(side, table.bytes, table.len, x, variables, out, sizeof out);
+        HOLDS(code == 0 && memcmp(out, due.bytes, due.len) == 0);
+        memset(out, FILL, sizeof out);
+        REFUSED(SHARING_NARROW, sharing_set_equation(side, table.bytes, table.len, x, variables,
+                                                     out, due.len - 1));
+        REFUSED(SHARING_NAME,
+                sharing_set_equation(side, table.bytes, table.len, x, 1u << l, out, 0));
+        REFUSED(SHARING_NAME,
+                sharing_set_equation(side, table.bytes, table.len, l + 1, 0, out, 0));
+    }
+    REFUSED(SHARING_STRAY, sharing_set_equation(0, loose, sizeof loose, 9, 99, out, 0));
+    HOLDS(sharing_set_term(0xffff, set) == sizeof set);
+    memset(set, FILL, sizeof set);
+    HOLDS(sharing_set_term(0x10000, set) == 0 && set[0] == FILL);
+}
+
+/* The intersection, against the groups of both; the sides as the comment reads them. */
+static void intersections(void) {
+    const uint8_t one[] = {1, 0, 0, 0}, two[] = {2, 0, 0, 0};
+    for (int round = 0; round < 4 * ROUNDS; round++) {
+        uint32_t l = 1 + any(SMALL);
+        form first = random_form(l, any(6)), second = random_form(l, any(6));
+        HOLDS(sharing_intersect(first.bytes, first.len, second.bytes, second.len, out,
+                                sizeof out) == 0);
+        form made = taken();
+        HOLDS(groups_of(0, &made) == (groups_of(0, &first) & groups_of(0, &second)));
+        HOLDS(groups_of(1, &made) == (groups_of(1, &first) | groups_of(1, &second)));
+    }
+    REFUSED(SHARING_UNLIKE, sharing_intersect(one, 4, two, 4, out, 0));
+    REFUSED(SHARING_NARROW, sharing_intersect(one, 4, one, 4, out, 3));
+}
+
+/* A goal of which nothing is known, against the closure of the groups that meet it. */
+static void unknown_goals(void) {
+    const uint8_t loose[] = {2, 0, 1, 0, 1, 0, 2, 0}, two[] = {2, 0, 0, 0};
+    for (int round = 0; round < 2 * ROUNDS; round++) {
+        uint32_t l = 1 + any(SMALL), goal = any(1u << l);
+        form table = random_form(l, any(6));
+        uint32_t groups = groups_of(0, &table), met = meeting(groups, goal);
+        HOLDS(sharing_unknown_goal(table.bytes, table.len, goal, out, sizeof out) == 0);
+        form made = taken();
+        HOLDS(groups_of(0, &made) == ((groups & ~met) | closed(met)));
+        REFUSED(SHARING_NARROW,
+                sharing_unknown_goal(table.bytes, table.len, goal, out, made.len - 1));
+    }
+    HOLDS(sharing_all_free(16, out, sizeof out) == 0);
+    form alone = taken();
+    REFUSED(SHARING_FULL, sharing_unknown_goal(alone.bytes, alone.len, 0xffff, out, 0));
+    REFUSED(SHARING_STRAY, sharing_unknown_goal(loose, sizeof loose, 99, out, 0));
+    REFUSED(SHARING_NAME, sharing_unknown_goal(two, 4, 4, out, 0));
+    REFUSED(SHARING_NARROW, sharing_unknown_goal(two, 4, 0, out, 3));
+}
+
+/* The groups of the closure that an exit table allows at the arguments. */
+static uint32_t allowed(uint32_t groups, uint32_t exits, const uint32_t *arguments, size_t len) {
+    uint32_t found = 0;
+    for (uint32_t s = 1; s < 1u << SMALL; s++)
+        if (exits >> renamed(s, arguments, len) & 1)
+            found |= groups & 1u << s;
+    return found;
+}
+
+/* A goal with a known exit table, against the groups one by one; arguments twice and known too. */
+static void known_goals(void) {
+    for (int round = 0; round < 4 * ROUNDS; round++) {
+        uint32_t l = 1 + any(SMALL), k = 1 + any(SMALL), arguments[SMALL], goal = 0;
+        form table = random_form(l, any(6)), exits = random_form(k, any(6));
+        for (uint32_t j = 0; j < k; j++) {
+            arguments[j] = any(l + 1);
+            goal |= arguments[j] == 0 ? 0 : 1u << (arguments[j] - 1);
+        }
+        uint32_t groups = groups_of(0, &table), met = meeting(groups, goal);
+        uint32_t due = (groups & ~met) |
+                       allowed(closed(met), groups_of(0, &exits), arguments, k);
+        HOLDS(sharing_known_goal(table.bytes, table.len, exits.bytes, exits.len, arguments, k, out,
+                                 sizeof out) == 0);
+        form made = taken();
+        HOLDS(groups_of(0, &made) == due);
+        REFUSED(SHARING_NARROW, sharing_known_goal(table.bytes, table.len, exits.bytes, exits.len,
+                                                   arguments, k, out, made.len - 1));
+    }
+}
+
+/* Each refusal of a goal with a known exit table, with the later faults beside it. */
+static void refused_goals(void) {
+    const uint8_t loose[] = {2, 0, 1, 0, 1, 0, 2, 0}, two[] = {2, 0, 0, 0};
+    const uint32_t far[] = {3, 3}, some[] = {1, 2};
+    uint32_t all[16];
+    for (uint32_t i = 0; i < 16; i++)
+        all[i] = i + 1;
+    HOLDS(sharing_all_free(16, out, sizeof out) == 0);
+    form alone = taken();
+    REFUSED(SHARING_STRAY, sharing_known_goal(loose, 8, loose, 7, far, 9, out, 0));
+    REFUSED(SHARING_TORN, sharing_known_goal(two, 4, loose, 7, far, 9, out, 0));
+    REFUSED(SHARING_UNLIKE, sharing_known_goal(two, 4, two, 4, far, 1, out, 0));
+    REFUSED(SHARING_NAME, sharing_known_goal(two, 4, two, 4, far, 2, out, 0));
+    REFUSED(SHARING_FULL,
+            sharing_known_goal(alone.bytes, alone.len, alone.bytes, alone.len, all, 16, out, 0));
+    REFUSED(SHARING_NARROW, sharing_known_goal(two, 4, two, 4, some, 2, out, 3));
+}
+
+/* The words of the answers, for tests/c to compare with the header. */
+static int print_words(void) {
+    for (uint32_t code = 0; code <= SHARING_KEEP + 1; code++)
+        printf("%u %s: %s\n", (unsigned)code, sharing_refusal_word(code),
+               sharing_refusal_sentence(code));
+    return strcmp(sharing_refusal_word(UINT32_MAX), "unknown");
+}
+
+int main(int count, char **words) {
+    if (count == 2 && strcmp(words[1], "words") == 0)
+        return print_words();
+    memset(out, FILL, sizeof out);
+    lengths();
+    doubtful_forms();
+    made_forms();
+    refused_forms();
+    texts();
+    refused_texts();
+    first_forms();
+    every_map();
+    wide_maps();
+    projections();
+    maps_and_questions();
+    refused_maps();
+    free_variables();
+    set_terms();
+    intersections();
+    unknown_goals();
+    known_goals();
+    refused_goals();
+    printf("%u cases, %u failed\n", cases, failures);
+    return failures == 0 ? EXIT_SUCCESS : EXIT_FAILURE;
+}
