@@ -46,20 +46,20 @@ module _ {E E′ : Refusal → Type 0} {P P′ S : Type 0} {S′ : P′ → Type
 -- how it is answered on the table t that was read
 with-table : (b : List ℕ) (t : Table) → Reads b t → {G : Table → Refusal → Type 0} {H : Table → Type 0}
     (S : (u : Table) → H u → Type 0) {q : Reply} → Told (G t) (H t) (S t) q
-    → Told (AfterRead b G) (ReadAnd b H) (λ p. S (p .0) (p .2)) q
+    → Told (AfterRead b G) (ReadAnd b H) (λ p. S (p .table) (p .ready)) q
 with-table b t e S (told-early h) = told-early (inr (t, e, h))
-with-table b t e S (told-yes p s) = told-yes (t, e, p) s
-with-table b t e S (told-no p n) = told-no (t, e, p) n
+with-table b t e S (told-yes p s) = told-yes (record { table = t; reads = e; ready = p }) s
+with-table b t e S (told-no p n) = told-no (record { table = t; reads = e; ready = p }) n
 
 -- a question that goes on with the table that was read
 module _ (b : List ℕ) {G : Table → Refusal → Type 0} {H : Table → Type 0} {S : (t : Table) → H t → Type 0} where
   read-told : (ask : Table → Reply) → ((t : Table) → Reads b t → Told (G t) (H t) (S t) (ask t))
-      → Told (AfterRead b G) (ReadAnd b H) (λ p. S (p .0) (p .2)) (ask-read b ask)
+      → Told (AfterRead b G) (ReadAnd b H) (λ p. S (p .table) (p .ready)) (ask-read b ask)
   read-told ask f =
       ⊎-elim
-      (λ h. subst (Told (AfterRead b G) (ReadAnd b H) (λ p. S (p .0) (p .2))) (sym (question-unread b (h .1) ask))
+      (λ h. subst (Told (AfterRead b G) (ReadAnd b H) (λ p. S (p .table) (p .ready))) (sym (question-unread b (h .1) ask))
       (told-early (inl (h .1))))
-      (λ h. subst (Told (AfterRead b G) (ReadAnd b H) (λ p. S (p .0) (p .2))) (sym (question-by-bytes b (h .1) ask))
+      (λ h. subst (Told (AfterRead b G) (ReadAnd b H) (λ p. S (p .table) (p .ready))) (sym (question-by-bytes b (h .1) ask))
       (with-table b (h .0) (h .1) S (f (h .0) (h .1))))
       (reads-or-not (form-outcome b))
 
@@ -114,8 +114,8 @@ module _ (side : Side) (b c : List ℕ) (word : ℕ) where
       (read-conditions b tt (λ t e. read-conditions c tt (λ u d.
       single {N = ¬ (t .l ≡ u .l)} {P = t .l ≡ u .l} R.Unlike (λ n k. n k) tt)))
       (λ p q s.
-      subst (λ (u : Table). Equal (groups-of side (q .0)) (groups-of side u)) (read-one c (p .2 .1) (q .2 .1))
-      (subst (λ (t : Table). Equal (groups-of side t) (groups-of side (p .2 .0))) (read-one b (p .1) (q .1)) s))
+      subst (λ (u : Table). Equal (groups-of side (q .table)) (groups-of side u)) (read-one c (p .ready .reads) (q .ready .reads))
+      (subst (λ (t : Table). Equal (groups-of side t) (groups-of side (p .ready .table))) (read-one b (p .reads) (q .reads)) s))
       word
       (read-told b (λ t. ask-read c (equal-call t)) (λ t e. read-told c (equal-call t) (λ u d.
       replied-told
@@ -130,7 +130,7 @@ module _ (side : Side) (b : List ℕ) (word : ℕ) where
   unfolding one-of member within ground-bytes
   ground-asked x =
       asked (1 ∷ 2 ∷ 3 ∷ 4 ∷ 5 ∷ []) (read-conditions b tt (λ t e. test (named (t .l) x) R.Name tt))
-      (λ p q s. subst (λ (t : Table). Ground (groups-of side t) x) (read-one b (p .1) (q .1)) s) word
+      (λ p q s. subst (λ (t : Table). Ground (groups-of side t) x) (read-one b (p .reads) (q .reads)) s) word
       (read-told b (λ t. ground-call side t x) (λ t e.
       replied-told (λ r. ⊎-elim (λ k. unrefused t (read-passes b e) k) (λ k. (k .1, k .2))) (λ p. p .1) (λ p s. s) (λ p s. s)
       (ground-replied side t x (read-value b e))))
@@ -141,7 +141,7 @@ module _ (side : Side) (b : List ℕ) (word : ℕ) where
   independent-asked first second =
       asked (1 ∷ 2 ∷ 3 ∷ 4 ∷ 5 ∷ []) (read-conditions b tt (λ t e. test (good-sets (t .l) first second) R.Name tt))
       (λ p q s.
-      subst (λ (t : Table). Independent (groups-of side t) (set (t .l) first) (set (t .l) second)) (read-one b (p .1) (q .1)) s)
+      subst (λ (t : Table). Independent (groups-of side t) (set (t .l) first) (set (t .l) second)) (read-one b (p .reads) (q .reads)) s)
       word
       (read-told b (λ t. independent-call side t first second) (λ t e.
       replied-told (λ r. ⊎-elim (λ k. unrefused t (read-passes b e) k) (λ k. (k .1, k .2))) (λ p. p .1) (λ p s. s) (λ p s. s)

@@ -27,17 +27,17 @@ use Rattle.sharing.specs.Calls.{good-keep, join-call, projection-call, change-s
 use Rattle.sharing.specs.Outcomes.{TableValue, groups-of, Becomes, Outcome, early, full, accepted, EquationNeeds, JoinNeeds}
 use Rattle.sharing.specs.Outcomes.{ProjectionNeeds, ChangeNeeds}
 use Rattle.sharing.proofs.Demand2.{convert-outcome, equation-outcome, join-outcome, projection-outcome, change-outcome}
-use Rattle.sharing.proofs.Exclusive.{Conditions, single, test, and-then, as-said, term-conditions}
+use Rattle.sharing.proofs.Exclusive.{Conditions, single, test, and-then, as-said, table-conditions, term-conditions}
 use Rattle.sharing.proofs.Exclusive.{convert-conditions}
 use Rattle.forms.specs.declared.Extent.the-variants.{Whole}
-use Rattle.forms.specs.Tables.{sized, first-size, second-size, written-entries, read-entries, read-sized, read-table}
+use Rattle.forms.specs.Tables.{sized, first-size, second-size, written-entries, read-entries, read-sized, read-table, Passed}
 use Rattle.forms.proofs.Reading.{entries-grow, read-good, read-groups}
-use Rattle.forms.proofs.Tests.{Passed, passed-reads}
+use Rattle.forms.proofs.Tests.{passed-reads}
 use Rattle.forms.proofs.Numbers.{read-numbers}
 use Rattle.byte_calls.specs.Calls.{check-bytes, tokens-of, term-call, after-read, change-side-bytes, equation-bytes, join-bytes}
 use Rattle.byte_calls.specs.Calls.{projection-bytes}
 use Rattle.byte_calls.proofs.Going.{term-refused, term-bytes-numbers}
-use Rattle.analyser.specs.Demand2.{Reads, Unread, Fails, entries-clean, right-length, FormEarly, FormReady, AfterRead}
+use Rattle.analyser.specs.Demand2.{Reads, Unread, Fails, entries-clean, right-length, FormEarly, AfterRead}
 use Rattle.analyser.specs.Demand2.{ReadAnd, TermEarly, TermReady, SecondEarly, SecondReady, ReadExported}
 use Rattle.analyser.specs.Demand2.{ConvertExported, ChangeExported, EquationExported, ProjectionExported, JoinExported}
 use Rattle.analyser.proofs.ByBytes.{call-by-bytes, call-unread, term-passed}
@@ -87,17 +87,27 @@ read-as b t e width side = record {
   exact = read-groups Whole side b t e;
 }
 
+-- the tests one by one
+abbrev Each : List ℕ → Type 0
+Each b =
+    (sized b ≡ true) × ((good-width (first-size b) ≡ true) × ((leb (second-size b) limit ≡ true)
+    × ((right-length b ≡ true) × (entries-clean b ≡ true))))
+
+passed : (b : List ℕ) → Each b → Passed Whole b
+passed b (s, (w, (n, (f, c)))) = record { sizes = s; width = w; few = n; long = f; clean = c }
+
 -- Every answer of reading.
-pub form-outcome : (b : List ℕ) → Outcome zero-table (FormEarly b) (FormReady b) (λ _. ⊥) (λ _. ReadAs b) (read-table Whole b)
+pub form-outcome : (b : List ℕ) → Outcome zero-table (FormEarly b) (Passed Whole b) (λ _. ⊥) (λ _. ReadAs b) (read-table Whole b)
 unfolding read-table read-sized read-entries table-of
 form-outcome b =
-    tested R.Torn (sized b) (λ s. tested R.Width (good-width (first-size b)) (λ w.
+    outcome-as (λ r e. e) (passed b) (λ p. (λ k. k, λ k. k)) (λ p u k. k)
+    (tested R.Torn (sized b) (λ s. tested R.Width (good-width (first-size b)) (λ w.
     tested R.Entries (leb (second-size b) limit) (λ n. tested R.Torn (right-length b) (λ f.
     tested-last R.Stray (entries-clean b) (λ c.
-    let p : Passed Whole b = record { sizes = s; width = w; few = n; long = f; clean = c } in
+    let p = passed b (s, (w, (n, (f, c)))) in
     let g = entries-grow {x = Whole} {b = b} p in
     let reads = passed-reads Whole b p ∙ g .2 in
-    (_, g .2, read-as b _ reads refl))))))
+    (_, g .2, read-as b _ reads refl)))))))
 
 -- Bytes read, or they do not.
 pub reads-or-not : {E : Refusal → Type 0} {P : Type 0} {S : P → Table → Type 0} {a : Answered}
@@ -122,17 +132,17 @@ module _ (b : List ℕ) {G : Table → Refusal → Type 0} {H : Table → Type 0
   -- a call that goes on with the table that was read
   read-outcome : {F : (t : Table) → H t → Type 0} {S : (t : Table) → H t → Table → Type 0} (go : Table → Answered)
       → ((t : Table) → Reads b t → (w : Table) × Outcome w (G t) (H t) (F t) (S t) (go t))
-      → (w : Table) × Outcome w (AfterRead b G) (ReadAnd b H) (λ q. F (q .0) (q .2)) (λ q. S (q .0) (q .2)) (after-read b go)
+      → (w : Table) × Outcome w (AfterRead b G) (ReadAnd b H) (λ q. F (q .table) (q .ready)) (λ q. S (q .table) (q .ready)) (after-read b go)
   read-outcome {F} {S} go f = ⊎-elim refused-first went (reads-or-not (form-outcome b))
     where
       Result : Type 0
       Result = (w : Table)
-          × Outcome w (AfterRead b G) (ReadAnd b H) (λ q. F (q .0) (q .2)) (λ q. S (q .0) (q .2)) (after-read b go)
+          × Outcome w (AfterRead b G) (ReadAnd b H) (λ q. F (q .table) (q .ready)) (λ q. S (q .table) (q .ready)) (after-read b go)
 
       refused-first : ((r : Refusal) × Unread b r) → Result
       refused-first h = (
         zero-table,
-        subst (Outcome zero-table (AfterRead b G) (ReadAnd b H) (λ q. F (q .0) (q .2)) (λ q. S (q .0) (q .2)))
+        subst (Outcome zero-table (AfterRead b G) (ReadAnd b H) (λ q. F (q .table) (q .ready)) (λ q. S (q .table) (q .ready)))
             (sym (call-unread b (h .1) go)) (early (inl (h .1))),
       )
 
@@ -140,9 +150,10 @@ module _ (b : List ℕ) {G : Table → Refusal → Type 0} {H : Table → Type 0
       went h =
           let o = f (h .0) (h .1) in (
             o .0,
-            subst (Outcome (o .0) (AfterRead b G) (ReadAnd b H) (λ q. F (q .0) (q .2)) (λ q. S (q .0) (q .2)))
+            subst (Outcome (o .0) (AfterRead b G) (ReadAnd b H) (λ q. F (q .table) (q .ready)) (λ q. S (q .table) (q .ready)))
                 (sym (call-by-bytes b (h .1) go))
-                (outcome-as (λ r e. inr (h .0, h .1, e)) (λ p. (h .0, h .1, p)) (λ p. (λ k. k, λ k. k)) (λ p u k. k) (o .1)),
+                (outcome-as (λ r e. inr (h .0, h .1, e)) (λ p. record { table = h .0; reads = h .1; ready = p })
+                (λ p. (λ k. k, λ k. k)) (λ p u k. k) (o .1)),
           )
 
   -- Its conditions exclude each other where the call's do.
@@ -150,8 +161,8 @@ module _ (b : List ℕ) {G : Table → Refusal → Type 0} {H : Table → Type 0
       → Conditions ns (AfterRead b G) (ReadAnd b H)
   read-conditions {ns} w c = record {
     apart = λ r e h.
-        ⊎-elim (λ k. read-clash b k (h .1))
-        (λ k. c (k .0) (k .1) .apart r (k .2) (subst H (read-one b (h .1) (k .1)) (h .2))) e;
+        ⊎-elim (λ k. read-clash b k (h .reads))
+        (λ k. c (k .0) (k .1) .apart r (k .2) (subst H (read-one b (h .reads) (k .1)) (h .ready))) e;
     one = one;
     numbers = λ r e.
         ⊎-elim
@@ -186,9 +197,10 @@ module _ (b out : List ℕ) where
   unfolding one-of member
   read-exported =
       exported (1 ∷ 2 ∷ 3 ∷ 4 ∷ [])
-      (and-then (test (sized b) R.Torn tt) (and-then (test (good-width (first-size b)) R.Width tt)
+      (as-said (and-then (test (sized b) R.Torn tt) (and-then (test (good-width (first-size b)) R.Width tt)
       (and-then (test (leb (second-size b) limit) R.Entries tt)
       (and-then (test (right-length b) R.Torn tt) (test (entries-clean b) R.Stray tt)))))
+      (λ r e. e) (λ p. (p .sizes, (p .width, (p .few, (p .long, p .clean))))))
       refl refl (λ p q f. f) (form-outcome b) (read-made b) out
 
 -- `sharing_convert`.
@@ -202,17 +214,12 @@ module _ (side : Side) (b out : List ℕ) where
   pub change-side-exported : ChangeExported side b out
   unfolding one-of member within change-side-bytes
   change-side-exported =
-      let o = read-outcome b (change-side-call side) (λ t e. (t, change-outcome side t (read-value b e))) in
       exported (1 ∷ 2 ∷ 3 ∷ 4 ∷ [])
-      (as-said (read-conditions b {G = λ t r. ⊥} {H = λ t. Unit {0}} tt (λ t e. record {
-        apart = λ r h. absurd h;
-        one = λ r s h. absurd h;
-        numbers = λ r h. absurd h;
-      }))
-      (λ r e. inl e) (λ h. (h .0, h .1, tt)))
-      refl refl (λ p q f. subst ChangeNeeds (read-one b (p .1) (q .1)) f)
-      (outcome-as (λ r. ⊎-elim (λ e. e) (λ e. unrefused (e .0) (read-passes b (e .1)) (e .2)))
-      (λ p. (p .0, p .1)) (λ p. (λ k. k, λ k. k)) (λ p u k. k) (o .1))
+      (as-said (read-conditions b tt (λ t e. table-conditions t tt)) (λ r e. inl e) (λ h. h))
+      refl refl (λ p q f. subst ChangeNeeds (read-one b (p .reads) (q .reads)) f)
+      (outcome-as (λ r. ⊎-elim (λ e. e) (λ e. unrefused (e .0) (read-passes b (e .1)) (e .2))) (λ p. p)
+      (λ p. (λ k. k, λ k. k)) (λ p u k. k)
+      (read-outcome b (change-side-call side) (λ t e. (t, change-outcome side t (read-value b e))) .1))
       (change-side-made side b) out
 
 -- ---- Equation
@@ -229,40 +236,43 @@ bytes-conditions {ns} term w = record {
 module _ (side : Side) (x : ℕ) (term : List ℕ) where
   -- the result of an equation with the term u on t
   abbrev EquationResult : (t : Table) → TermReady x term t → Table → Type 0
-  EquationResult t p = Becomes side (t .l) (After (record { left = x; right = p .1 .0 }) (groups-of side t))
+  EquationResult t p = Becomes side (t .l) (After (record { left = x; right = p .right }) (groups-of side t))
 
   term-outcome : (t : Table) → TableValue t → check-table t ≡ Accepted
-      → Outcome t (TermEarly x term t) (TermReady x term t) (λ p. EquationNeeds side t x (p .1 .0)) (EquationResult t)
+      → Outcome t (TermEarly x term t) (TermReady x term t) (λ p. EquationNeeds side t x (p .right)) (EquationResult t)
       (term-call side t x term)
   term-outcome t value passes = go (check-bytes term) refl
     where
       Told : Answered → Type 0
-      Told = Outcome t (TermEarly x term t) (TermReady x term t) (λ p. EquationNeeds side t x (p .1 .0)) (EquationResult t)
+      Told = Outcome t (TermEarly x term t) (TermReady x term t) (λ p. EquationNeeds side t x (p .right)) (EquationResult t)
 
       go : (w : Answer) → check-bytes term ≡ w → Told (term-call side t x term)
       go (Refused r) e = subst Told (term-refused side t x term passes e) (early (inl e))
       go Accepted e =
           subst Told (sym (term-passed side t x term e))
-          (outcome-as (λ r. ⊎-elim (λ k. unrefused t passes k) (λ k. inr (e, k .1))) (λ p. (e, (p .term, p .reads)))
+          (outcome-as (λ r. ⊎-elim (λ k. unrefused t passes k) (λ k. inr (e, k .1))) (λ p. record { passes = e; right = p .term; reads = p .reads })
           (λ p. (λ k. k, λ k. k)) (λ p u k. k) (equation-outcome side t x (tokens-of term) value))
 
   module _ (b : List ℕ) where
     -- the table and the term that were read are the only ones
-    needs-same : (p q : ReadAnd b (TermReady x term)) → EquationNeeds side (p .0) x (p .2 .1 .0)
-        → EquationNeeds side (q .0) x (q .2 .1 .0)
+    needs-same : (p q : ReadAnd b (TermReady x term)) → EquationNeeds side (p .table) x (p .ready .right)
+        → EquationNeeds side (q .table) x (q .ready .right)
     needs-same p q f =
-        let one = read-one b (p .1) (q .1) in
-        let here = subst (λ (t : Table). C.check-equation (t .l) x (tokens-of term) ≡ C.reads (p .2 .1 .0)) one (p .2 .1 .1) in
-        let there = q .2 .1 .1 in
-        let is : p .2 .1 .0 ≡ q .2 .1 .0 = cc in
-        subst (λ (u : Term). EquationNeeds side (q .0) x u) is (subst (λ (t : Table). EquationNeeds side t x (p .2 .1 .0)) one f)
+        let one = read-one b (p .reads) (q .reads) in
+        let u = p .ready .right in
+        let here = subst (λ (t : Table). C.check-equation (t .l) x (tokens-of term) ≡ C.reads u) one (p .ready .reads) in
+        let there = q .ready .reads in
+        let is : u ≡ q .ready .right = cc in
+        subst (λ (v : Term). EquationNeeds side (q .table) x v) is (subst (λ (t : Table). EquationNeeds side t x u) one f)
 
     -- `sharing_equation`.
     pub equation-exported : (out : List ℕ) → EquationExported side b x term out
     unfolding one-of member within equation-bytes
     equation-exported out =
         exported (1 ∷ 2 ∷ 3 ∷ 4 ∷ 7 ∷ 5 ∷ 6 ∷ [])
-        (read-conditions b tt (λ t e. and-then (bytes-conditions term tt) (term-conditions (t .l) x (tokens-of term) tt)))
+        (read-conditions b tt (λ t e.
+        as-said (and-then (bytes-conditions term tt) (term-conditions (t .l) x (tokens-of term) tt)) (λ r k. k)
+        (λ p. (p .passes, (p .right, p .reads)))))
         refl refl needs-same
         (read-outcome b (λ t. term-call side t x term)
         (λ t e. (t, term-outcome t (read-value b e) (read-passes b e))) .1)
@@ -277,7 +287,7 @@ module _ (side : Side) (b : List ℕ) (keep : ℕ) where
   projection-exported out =
       exported (1 ∷ 2 ∷ 3 ∷ 4 ∷ 11 ∷ [])
       (read-conditions b tt (λ t e. test (good-keep (t .l) keep) R.Keep tt))
-      refl refl (λ p q f. subst (λ (t : Table). ProjectionNeeds side t keep) (read-one b (p .1) (q .1)) f)
+      refl refl (λ p q f. subst (λ (t : Table). ProjectionNeeds side t keep) (read-one b (p .reads) (q .reads)) f)
       (read-outcome b (λ t. projection-call side t keep)
       (λ t e. (
         t,
@@ -291,8 +301,8 @@ module _ (side : Side) (b : List ℕ) (keep : ℕ) where
 module _ (side : Side) (b c : List ℕ) where
   -- the join of two tables that were read
   second-outcome : (t : Table) → Reads b t
-      → (w : Table) × Outcome w (SecondEarly c t) (SecondReady c t) (λ q. JoinNeeds side t (q .0))
-      (λ q. Becomes side (t .l) (Joined (groups-of side t) (groups-of side (q .0)))) (after-read c (join-call side t))
+      → (w : Table) × Outcome w (SecondEarly c t) (SecondReady c t) (λ q. JoinNeeds side t (q .table))
+      (λ q. Becomes side (t .l) (Joined (groups-of side t) (groups-of side (q .table)))) (after-read c (join-call side t))
   second-outcome t e = read-outcome c (join-call side t) (λ u d. (
     t,
     outcome-as
@@ -311,6 +321,6 @@ module _ (side : Side) (b c : List ℕ) where
       single {N = ¬ (t .l ≡ u .l)} {P = t .l ≡ u .l} R.Unlike (λ n k. n k) tt)))
       refl refl
       (λ p q f.
-      subst (λ (u : Table). JoinNeeds side (q .0) u) (read-one c (p .2 .1) (q .2 .1))
-      (subst (λ (t : Table). JoinNeeds side t (p .2 .0)) (read-one b (p .1) (q .1)) f))
+      subst (λ (u : Table). JoinNeeds side (q .table) u) (read-one c (p .ready .reads) (q .ready .reads))
+      (subst (λ (t : Table). JoinNeeds side t (p .ready .table)) (read-one b (p .reads) (q .reads)) f))
       (read-outcome b (λ t. after-read c (join-call side t)) second-outcome .1) (join-made side b c) out

@@ -26,10 +26,10 @@ use Rattle.tables.specs.declared.Refusal.the-variants as R
 use Rattle.tables.specs.declared.Answer.{Answer}
 use Rattle.tables.specs.declared.Answer.the-variants.{Accepted, Refused}
 use Rattle.tables.specs.declared.Answered.{Answered}
-use Rattle.tables.specs.Values.{entries-of, accepts, refuses, check-table}
+use Rattle.tables.specs.Values.{entries-of, accepts, check-table}
 use Rattle.sharing.specs.Calls.{convert-call, join-call, projection-call, change-side-call}
-use Rattle.sharing.specs.Outcomes.{TableValue, groups-of, Outcome, early, full, accepted}
-use Rattle.sharing.proofs.Demand2.{convert-outcome, join-outcome, projection-outcome, change-outcome}
+use Rattle.sharing.specs.Outcomes.{TableValue, groups-of, Outcome}
+use Rattle.sharing.proofs.Demand2.{result, convert-outcome, join-outcome, projection-outcome, change-outcome}
 use Rattle.questions.specs.declared.Reply.{Reply}
 use Rattle.questions.specs.declared.Reply.the-variants as Q
 use Rattle.questions.specs.declared.Reply.the-variants.{Yes, No}
@@ -45,6 +45,7 @@ use Rattle.analyser.specs.Goals.{Writes}
 use Rattle.analyser.specs.Demand2.{Reads}
 use Rattle.analyser.proofs.ByBytes.{change-side-by-bytes, projection-by-bytes, join-by-bytes, equal-by-bytes}
 use Rattle.analyser.proofs.ByBytes.{ground-by-bytes, independent-by-bytes}
+use Rattle.analyser.proofs.HandedBack.{answer-is}
 use Rattle.analyser.proofs.Demand2.{read-value}
 use Rattle.analyser.proofs.ReadsBack.{put-accepted, convert-reads, change-side-reads, join-reads}
 use Rattle.analyser.proofs.ReadsBack.{projection-reads}
@@ -163,26 +164,20 @@ module _ (side : Side) (t : Table) where
 
 -- ---- Calls that are accepted
 
--- a refusal accepts nothing
-refused-not : {r : Refusal} {t w : Table} → ¬ (refuses r t ≡ accepts w)
-refused-not {r} e =
-    let clash : Refused r ≡ Accepted = ap (λ (y : Answered). y .answer) e in
-    absurd (let z : _≡_ {A = ℕ} 0 1 = cc in omega arith)
-
 -- what an accepted call has made
-module _ {t : Table} {Early : Refusal → Type 0} {Ready : Type 0} {Full : Ready → Type 0} {Result : Ready → Table → Type 0} where
-  result : {a : Answered} → Outcome t Early Ready Full Result a → (w : Table) → a ≡ accepts w → (r : Ready) × Result r w
-  result (early h) w e = absurd (refused-not e)
-  result (full r h) w e = absurd (refused-not e)
-  result (accepted r n h) w e = (r, subst (Result r) (ap (λ (y : Answered). y .table) e) h)
+made : {t : Table} {Early : Refusal → Type 0} {Ready : Type 0} {Full : Ready → Type 0} {Result : Ready → Table → Type 0}
+    {a : Answered} → Outcome t Early Ready Full Result a → (w : Table) → a ≡ accepts w → (r : Ready) × Result r w
+made {Result = Result} outcome w e =
+    let m = result outcome (ap (λ (y : Answered). y .answer) e) in
+    (m .0, subst (Result (m .0)) (ap (λ (y : Answered). y .table) e) (m .1))
 
 module _ (side : Side) (t : Table) (value : TableValue t) (w : Table) (θ : Bindings) where
   -- The table of an accepted join describes all bindings that either table describes.
   pub join-describes : (u : Table) → TableValue u → join-call side t u ≡ accepts w
       → Describes (groups-of side t) θ ⊎ Describes (groups-of side u) θ → Describes (groups-of side w) θ
   join-describes u value-u e d =
-      let made = result (join-outcome side t u value value-u) w e .1 in
-      describes-equal (groups-of side w) (Joined (groups-of side t) (groups-of side u)) θ (made .exact) .1
+      let got = made (join-outcome side t u value value-u) w e .1 in
+      describes-equal (groups-of side w) (Joined (groups-of side t) (groups-of side u)) θ (got .exact) .1
       (describes-joined (groups-of side t) (groups-of side u) θ d)
 
   -- The table of an accepted projection describes the terms of the kept variables, in rising order.
@@ -190,16 +185,16 @@ module _ (side : Side) (t : Table) (value : TableValue t) (w : Table) (θ : Bind
       → Describes (groups-of side w) (cut (set (t .l) keep) θ)
   projection-describes keep e d =
       let k = set (t .l) keep in
-      let made = result (projection-outcome side t keep value) w e .1 in
-      describes-equal (groups-of side w) (Projected k (groups-of side t)) (cut k θ) (made .exact) .1
+      let got = made (projection-outcome side t keep value) w e .1 in
+      describes-equal (groups-of side w) (Projected k (groups-of side t)) (cut k θ) (got .exact) .1
       (describes-projected k (groups-of side t) θ d)
 
   -- The table of an accepted change of side describes, on the other side, just the bindings that the table given describes.
   pub change-describes : change-side-call side t ≡ accepts w
       → Describes (groups-of side t) θ ↔ Describes (groups-of (opposite side) w) θ
   change-describes e =
-      let made = result (change-outcome side t value) w e .1 in
-      describes-equal (groups-of side t) (groups-of (opposite side) w) θ (λ g. (made .exact g .1, made .exact g .0))
+      let got = made (change-outcome side t value) w e .1 in
+      describes-equal (groups-of side t) (groups-of (opposite side) w) θ (λ g. (got .exact g .1, got .exact g .0))
 
 module _ (l : ℕ) (ws : List ℕ) (w : Table) (θ : Bindings) where
   -- The table of an accepted conversion describes just the bindings for which the string of each run-time variable is all zero
@@ -208,7 +203,7 @@ module _ (l : ℕ) (ws : List ℕ) (w : Table) (θ : Bindings) where
       → Describes (Among (map (set l) ws)) θ ↔ Describes (groups-of positive w) θ
   convert-describes e =
       let gs = map (set l) ws in
-      let same = describes-equal (groups-of positive w) (Listed l gs) θ (result (convert-outcome l ws) w e .1 .exact) in
+      let same = describes-equal (groups-of positive w) (Listed l gs) θ (made (convert-outcome l ws) w e .1 .exact) in
       let row = describes-listed l gs (sets-long l ws) θ in
       (λ d. same .1 (row .1 d), λ d. row .0 (same .0 d))
 
@@ -218,8 +213,9 @@ module _ (l : ℕ) (ws : List ℕ) (w : Table) (θ : Bindings) where
 pub written-is : (a : Answered) (out : List ℕ) (w : Table)
     → (put-answer a out ≡ Accepted → read-table Front (put-bytes a out) ≡ accepts (a .table)) → Writes a out w → a ≡ accepts w
 written-is a out w back h =
-    let same : a .table ≡ w = ap (λ (y : Answered). y .table) (sym (back (h .went)) ∙ h .reads) in
-    λ i. record { answer = put-accepted a out (h .went) i; table = same i }
+    let went = answer-is a out Accepted (h .zero) in
+    let same : a .table ≡ w = ap (λ (y : Answered). y .table) (sym (back went) ∙ h .reads) in
+    λ i. record { answer = put-accepted a out went i; table = same i }
 
 module _ (side : Side) (b : List ℕ) {t : Table} (read : Reads b t) (θ : Bindings) where
   -- The question on bytes: goals on sets that are said to be independent share no run-time variable.

@@ -20,6 +20,7 @@ use Rattle.tables.specs.Refusals.{refusal-number, answer-number, member, one-of
 use Rattle.tables.proofs.Checking.{good-passes}
 use Rattle.tables.proofs.Numbers.{same-answer}
 use Rattle.sharing.specs.Outcomes.{Outcome, early, full, accepted, Exclusive}
+use Rattle.sharing.proofs.Demand2.{result}
 use Rattle.sharing.proofs.Exclusive.{Conditions, exclusive}
 use Rattle.forms.specs.Tables.{table-length, table-form, write-answer, written}
 use Rattle.forms.proofs.Back.{form-length}
@@ -33,12 +34,12 @@ accepted-not : {r : Refusal} {P : Type 0} → Accepted ≡ Refused r → P
 accepted-not e = absurd (let z : _≡_ {A = ℕ} 0 1 = cc in omega arith)
 
 module _ (a : Answered) (out : List ℕ) where
-  -- the number is that of the answer
-  number-is : {w : Answer} → put-answer a out ≡ w → put-number a out ≡ answer-number w
+  -- The number is that of the answer, and says which it is.
+  pub number-is : {w : Answer} → put-answer a out ≡ w → put-number a out ≡ answer-number w
   unfolding put-number
   number-is e = ap answer-number e
 
-  answer-is : (w : Answer) → put-number a out ≡ answer-number w → put-answer a out ≡ w
+  pub answer-is : (w : Answer) → put-number a out ≡ answer-number w → put-answer a out ≡ w
   unfolding put-number
   answer-is w e = same-answer (put-answer a out) w e
 
@@ -148,12 +149,6 @@ apart-from ns x out h e = subst (λ (b : Bool). T b) out (subst (λ (i : Refusal
 module _ {t : Table} {Early : Refusal → Type 0} {Ready : Type 0} {Full : Ready → Type 0} {Result : Ready → Table → Type 0}
     (ns : List ℕ) (conditions : Conditions ns Early Ready) (no-8 : one-of ns R.Full ≡ false) (no-9 : one-of ns R.Narrow ≡ false)
     (same : (p q : Ready) → Full p → Full q) where
-  -- the result of an accepted call
-  made : {a : Answered} → Outcome t Early Ready Full Result a → a .answer ≡ Accepted → (ready : Ready) × Result ready (a .table)
-  made (early h) e = accepted-not (sym e)
-  made (full ready f) e = accepted-not (sym e)
-  made (accepted ready n h) e = (ready, h)
-
   -- the numbers that can be returned
   listed : {a : Answered} → Outcome t Early Ready Full Result a → MakesGood a → (out : List ℕ)
       → T (member (put-number a out) (0 ∷ 8 ∷ 9 ∷ ns))
@@ -191,7 +186,7 @@ module _ {t : Table} {Early : Refusal → Type 0} {Ready : Type 0} {Full : Ready
     );
     no-other = listed outcome good out;
     result = λ e.
-        let m = made outcome (put-accepted a out (answer-is a out Accepted e)) in
+        let m = result outcome (put-accepted a out (answer-is a out Accepted e)) in
         (m .0, m .1, back .wrote e);
     unwritten = back .unwritten;
   }

@@ -21,7 +21,7 @@ use Rattle.tables.specs.declared.Refusal.the-variants as R
 use Rattle.tables.specs.declared.Answer.the-variants.{Accepted, Refused}
 use Rattle.tables.specs.declared.Answered.{Answered}
 use Rattle.tables.specs.Refusals.{refusal-number, member, one-of}
-use Rattle.tables.specs.Values.{zero-table, accepts, refuses, good-width, all-clean}
+use Rattle.tables.specs.Values.{zero-table, accepts, refuses, good-width, all-clean, GoodTable}
 use Rattle.terms.specs.Checks as C
 use Rattle.sharing.specs.Calls.{good-keep, convert-call}
 use Rattle.sharing.specs.Outcomes.{groups-of, Becomes, ConvertEarly, ConvertReady, ConvertNeeds, EquationNeeds, JoinNeeds}
@@ -30,7 +30,7 @@ use Rattle.questions.specs.declared.Reply.{Reply}
 use Rattle.questions.specs.Replies.{reply-number, reply-word, good-sets}
 use Rattle.forms.specs.declared.Extent.the-variants.{Whole, Front}
 use Rattle.forms.specs.Tables.{sized, first-size, second-size, table-length, fits, cares, values, written-entries, read-table}
-use Rattle.forms.specs.Tables.{table-form}
+use Rattle.forms.specs.Tables.{Passed, table-form}
 use Rattle.byte_calls.specs.Calls.{check-bytes, tokens-of, change-side-bytes, equation-bytes, join-bytes, projection-bytes}
 use Rattle.byte_calls.specs.Calls.{equal-bytes, ground-bytes, independent-bytes}
 use Rattle.outputs.specs.Outputs.{put-number, put-bytes}
@@ -101,16 +101,10 @@ FormEarly b r =
     × (Fails (leb (second-size b) limit) R.Entries r ⊎ ((leb (second-size b) limit ≡ true)
     × (Fails (right-length b) R.Torn r ⊎ ((right-length b ≡ true) × Fails (entries-clean b) R.Stray r)))))))
 
--- A form that passes every test.
-abbrev pub FormReady : List ℕ → Type 0
-FormReady b =
-    (sized b ≡ true) × ((good-width (first-size b) ≡ true) × ((leb (second-size b) limit ≡ true)
-    × ((right-length b ≡ true) × (entries-clean b ≡ true))))
-
 -- `sharing_read`, of a table of either side: never 8; the groups are those of the entries written.
 abbrev pub ReadExported : List ℕ → List ℕ → Type 0
 ReadExported b out =
-    Exported (1 ∷ 2 ∷ 3 ∷ 4 ∷ []) (FormEarly b) (FormReady b) (λ _. ⊥)
+    Exported (1 ∷ 2 ∷ 3 ∷ 4 ∷ []) (FormEarly b) (Passed Whole b) (λ _. ⊥)
     (λ _ u. (side : Side)
     → Becomes side (first-size b) (groups side (first-size b) (written-entries (first-size b) (second-size b) b)) u)
     (read-table Whole b) out
@@ -130,14 +124,16 @@ abbrev pub AfterRead : List ℕ → (Table → Refusal → Type 0) → Refusal �
 AfterRead b Early r = Unread b r ⊎ ((t : Table) × Reads b t × Early t r)
 
 -- The bytes read as a table, with which the call is ready.
-abbrev pub ReadAnd : List ℕ → (Table → Type 0) → Type 0
-ReadAnd b Ready = (t : Table) × Reads b t × Ready t
+pub record ReadAnd (b : List ℕ) (Ready : Table → Type 0) : Type 0 where
+  pub table : Table
+  pub reads : Reads b table
+  pub ready : Ready table
 
 -- `sharing_change_side`: the same groups on the other side.
 abbrev pub ChangeExported : Side → List ℕ → List ℕ → Type 0
 ChangeExported side b out =
-    Exported (1 ∷ 2 ∷ 3 ∷ 4 ∷ []) (Unread b) ((t : Table) × Reads b t) (λ q. ChangeNeeds (q .0))
-    (λ q. Becomes (opposite side) (q .0 .l) (groups-of side (q .0))) (change-side-bytes side b) out
+    Exported (1 ∷ 2 ∷ 3 ∷ 4 ∷ []) (Unread b) (ReadAnd b GoodTable) (λ q. ChangeNeeds (q .table))
+    (λ q. Becomes (opposite side) (q .table .l) (groups-of side (q .table))) (change-side-bytes side b) out
 
 -- The refusals of a term as bytes: 7, 1; then 5 of x, 5 of the tokens, 6.
 abbrev pub TermEarly : ℕ → List ℕ → Table → Refusal → Type 0
@@ -145,17 +141,18 @@ TermEarly x term t r =
     (check-bytes term ≡ Refused r)
     ⊎ ((check-bytes term ≡ Accepted) × (C.check-equation (t .l) x (tokens-of term) ≡ C.refuses r))
 
--- The bytes are the tokens of one whole term.
-abbrev pub TermReady : ℕ → List ℕ → Table → Type 0
-TermReady x term t =
-    (check-bytes term ≡ Accepted) × ((u : Term) × (C.check-equation (t .l) x (tokens-of term) ≡ C.reads u))
+-- The bytes are the tokens of one whole term, the right side of the equation.
+pub record TermReady (x : ℕ) (term : List ℕ) (t : Table) : Type 0 where
+  pub passes : check-bytes term ≡ Accepted
+  pub right : Term
+  pub reads : C.check-equation (t .l) x (tokens-of term) ≡ C.reads right
 
 -- `sharing_equation`: the groups after the equation, by the binary definition.
 abbrev pub EquationExported : Side → List ℕ → ℕ → List ℕ → List ℕ → Type 0
 EquationExported side b x term out =
     Exported (1 ∷ 2 ∷ 3 ∷ 4 ∷ 7 ∷ 5 ∷ 6 ∷ []) (AfterRead b (TermEarly x term)) (ReadAnd b (TermReady x term))
-    (λ q. EquationNeeds side (q .0) x (q .2 .1 .0))
-    (λ q. Becomes side (q .0 .l) (After (record { left = x; right = q .2 .1 .0 }) (groups-of side (q .0))))
+    (λ q. EquationNeeds side (q .table) x (q .ready .right))
+    (λ q. Becomes side (q .table .l) (After (record { left = x; right = q .ready .right }) (groups-of side (q .table))))
     (equation-bytes side b x term) out
 
 -- `sharing_project`: the projected groups; 11 for a set with no variable or one above l.
@@ -163,8 +160,8 @@ abbrev pub ProjectionExported : Side → List ℕ → ℕ → List ℕ → Type 
 ProjectionExported side b keep out =
     Exported (1 ∷ 2 ∷ 3 ∷ 4 ∷ 11 ∷ []) (AfterRead b (λ t. Fails (good-keep (t .l) keep) R.Keep))
     (ReadAnd b (λ t. good-keep (t .l) keep ≡ true))
-    (λ q. ProjectionNeeds side (q .0) keep)
-    (λ q. Becomes side (kept (set (q .0 .l) keep)) (Projected (set (q .0 .l) keep) (groups-of side (q .0))))
+    (λ q. ProjectionNeeds side (q .table) keep)
+    (λ q. Becomes side (kept (set (q .table .l) keep)) (Projected (set (q .table .l) keep) (groups-of side (q .table))))
     (projection-bytes side b keep) out
 
 -- ---- Join: the first table is read first
@@ -181,8 +178,8 @@ SecondReady c t = ReadAnd c (λ u. t .l ≡ u .l)
 abbrev pub JoinExported : Side → List ℕ → List ℕ → List ℕ → Type 0
 JoinExported side b c out =
     Exported (1 ∷ 2 ∷ 3 ∷ 4 ∷ 10 ∷ []) (AfterRead b (SecondEarly c)) (ReadAnd b (SecondReady c))
-    (λ q. JoinNeeds side (q .0) (q .2 .0))
-    (λ q. Becomes side (q .0 .l) (Joined (groups-of side (q .0)) (groups-of side (q .2 .0))))
+    (λ q. JoinNeeds side (q .table) (q .ready .table))
+    (λ q. Becomes side (q .table .l) (Joined (groups-of side (q .table)) (groups-of side (q .ready .table))))
     (join-bytes side b c) out
 
 -- ---- Questions
@@ -203,18 +200,18 @@ pub record Asked (ns : List ℕ) (Early : Refusal → Type 0) (Ready : Type 0) (
 abbrev pub EqualAsked : Side → List ℕ → List ℕ → ℕ → Type 0
 EqualAsked side b c word =
     Asked (1 ∷ 2 ∷ 3 ∷ 4 ∷ 10 ∷ []) (AfterRead b (SecondEarly c)) (ReadAnd b (SecondReady c))
-    (λ q. Equal (groups-of side (q .0)) (groups-of side (q .2 .0))) (equal-bytes b c) word
+    (λ q. Equal (groups-of side (q .table)) (groups-of side (q .ready .table))) (equal-bytes b c) word
 
 -- `sharing_ground`: 5 for a variable not 1 to l.
 abbrev pub GroundAsked : Side → List ℕ → ℕ → ℕ → Type 0
 GroundAsked side b x word =
     Asked (1 ∷ 2 ∷ 3 ∷ 4 ∷ 5 ∷ []) (AfterRead b (λ t. Fails (named (t .l) x) R.Name)) (ReadAnd b (λ t. named (t .l) x ≡ true))
-    (λ q. Ground (groups-of side (q .0)) x) (ground-bytes side b x) word
+    (λ q. Ground (groups-of side (q .table)) x) (ground-bytes side b x) word
 
 -- `sharing_independent`: 5 for a bit above l in either set.
 abbrev pub IndependentAsked : Side → List ℕ → ℕ → ℕ → ℕ → Type 0
 IndependentAsked side b first second word =
     Asked (1 ∷ 2 ∷ 3 ∷ 4 ∷ 5 ∷ []) (AfterRead b (λ t. Fails (good-sets (t .l) first second) R.Name))
     (ReadAnd b (λ t. good-sets (t .l) first second ≡ true))
-    (λ q. Independent (groups-of side (q .0)) (set (q .0 .l) first) (set (q .0 .l) second)) (independent-bytes side b first second)
-    word
+    (λ q. Independent (groups-of side (q .table)) (set (q .table .l) first) (set (q .table .l) second))
+    (independent-bytes side b first second) word

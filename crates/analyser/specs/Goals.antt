@@ -3,14 +3,13 @@ use mathlib.Core.Path.{_≡_}
 use mathlib.Core.List.{List}
 use Prim.Native.Nat.{ℕ}
 use Rattle.tables.specs.declared.Table.{Table}
-use Rattle.tables.specs.declared.Answer.the-variants.{Accepted}
 use Rattle.tables.specs.declared.Answered.{Answered}
 use Rattle.tables.specs.Values.{accepts}
 use Rattle.forms.specs.declared.Extent.the-variants.{Front}
 use Rattle.forms.specs.Tables.{read-table}
-use Rattle.outputs.specs.Outputs.{put-answer, put-bytes}
+use Rattle.outputs.specs.Outputs.{put-number, put-bytes}
 
--- A call that answers a was accepted with the lent output, and the form that it wrote there reads as the table w.
+-- The exported call that answers a has returned 0, and the form that it wrote into the output reads as the table w.
 pub record Writes (a : Answered) (out : List ℕ) (w : Table) : Type 0 where
-  pub went : put-answer a out ≡ Accepted
+  pub zero : put-number a out ≡ 0
   pub reads : read-table Front (put-bytes a out) ≡ accepts w

@@ -28,7 +28,8 @@ use Rattle.codec.proofs.Laws.{length-bytes, bytes-append, Narrow, number-pair, 
 use Rattle.forms.specs.declared.Extent.the-variants.{Whole, Front}
 use Rattle.forms.specs.Tables.{sized, first-size, second-size, table-length, fits, cares, values, written-entries}
 use Rattle.forms.specs.Tables.{read-table, table-form, written}
-use Rattle.forms.proofs.Tests.{entries-in, Passed, passed-reads}
+use Rattle.forms.specs.Tables.{Passed}
+use Rattle.forms.proofs.Tests.{entries-in, passed-reads}
 use Rattle.forms.proofs.Reading.{entries-grow, read-groups}
 use Rattle.forms.proofs.Cutting.{table-followed}
 

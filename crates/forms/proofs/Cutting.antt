@@ -18,7 +18,8 @@ use Rattle.forms.specs.Tables.{sized, first-size, second-size, table-len
 use Rattle.forms.specs.Tables.{read-entries, read-sized, read-table}
 use Rattle.forms.specs.Equations.{equations-length, equations-of, check-sized}
 use Rattle.forms.specs.Equations.{share-out, check-each, check-equations}
-use Rattle.forms.proofs.Tests.{grown-table, Passed, reads-passed, equations-passed}
+use Rattle.forms.specs.Tables.{Passed}
+use Rattle.forms.proofs.Tests.{grown-table, reads-passed, equations-passed}
 
 -- ---- The sizes at the front
 

@@ -31,7 +31,8 @@ use Rattle.tables.specs.Values.{table-of, entries-of, accepts, refuses, made-or
 use Rattle.tables.proofs.Values.{entries-of-table, table-of-good}
 use Rattle.forms.specs.declared.Extent.{Extent}
 use Rattle.forms.specs.Tables.{first-size, second-size, cares, values, written-entries, read-table}
-use Rattle.forms.proofs.Tests.{entries-in, grown-table, Passed, reads-passed}
+use Rattle.forms.specs.Tables.{Passed}
+use Rattle.forms.proofs.Tests.{entries-in, grown-table, reads-passed}
 
 -- ---- The entries that a form holds
 

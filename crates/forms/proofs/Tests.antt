@@ -19,7 +19,7 @@ use Rattle.tables.specs.Refusals.{answer-number}
 use Rattle.tables.specs.Values.{good-width, all-clean, zero-table, refuses, made-or-full}
 use Rattle.forms.specs.declared.Extent.{Extent}
 use Rattle.forms.specs.Tables.{sized, first-size, second-size, table-length, fits, cares, values, written-entries}
-use Rattle.forms.specs.Tables.{read-entries, read-sized, read-table}
+use Rattle.forms.specs.Tables.{read-entries, read-sized, read-table, Passed}
 use Rattle.forms.specs.Equations.{most-equations, equations-length, counts, equations-of, check-each, check-sized}
 use Rattle.forms.specs.Equations.{check-equations}
 
@@ -35,14 +35,6 @@ entries-in b = written-entries (first-size b) (second-size b) b
 -- The table of the entries that a form holds, grown in order.
 abbrev pub grown-table : List ℕ → Answered
 grown-table b = made-or-full (first-size b) zero-table (grow-all [] (entries-in b))
-
--- The tests of a reading, each passed.
-pub record Passed (x : Extent) (b : List ℕ) : Type 0 where
-  pub sizes : sized b ≡ true
-  pub width : good-width (first-size b) ≡ true
-  pub few : leb (second-size b) limit ≡ true
-  pub long : fits x (table-length (second-size b)) (length b) ≡ true
-  pub clean : all-clean (first-size b) (second-size b) (cares (second-size b) b) (values (second-size b) b) ≡ true
 
 -- A reading that passes its tests answers the grown table.
 pub passed-reads : (x : Extent) (b : List ℕ) → Passed x b → read-table x b ≡ grown-table b

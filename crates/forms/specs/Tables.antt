@@ -1,5 +1,6 @@
 -- The written form of a table (01, "Written form" and "Refusals"): sizes l and n, n care words, n value words.
-use mathlib.Core.Bool.{Bool, cond}
+use mathlib.Core.Path.{_≡_}
+use mathlib.Core.Bool.{Bool, true, cond}
 use mathlib.Core.List.{List, [], _∷_, _++_}
 use Prim.Native.Nat.{ℕ, _+_, _*_}
 use lib.Dec.{leb, eqb}
@@ -71,6 +72,14 @@ read-sized extent l n b =
 unfoldable pub read-table : Extent → List ℕ → Answered
 read-table extent b =
     cond (sized b) (read-sized extent (first-size b) (second-size b) b) (refuses R.Torn zero-table)
+
+-- A form that passes every test of reading: sizes present, 2, 3, length, 4 by entry.
+pub record Passed (x : Extent) (b : List ℕ) : Type 0 where
+  pub sizes : sized b ≡ true
+  pub width : good-width (first-size b) ≡ true
+  pub few : leb (second-size b) limit ≡ true
+  pub long : fits x (table-length (second-size b)) (length b) ≡ true
+  pub clean : all-clean (first-size b) (second-size b) (cares (second-size b) b) (values (second-size b) b) ≡ true
 
 -- ---- Writing
 

@@ -78,6 +78,14 @@ module _ {t : Table} {Early : Refusal → Type 0} {Ready : Type 0} {Full : Ready
   tested-first true a f g = g refl
   tested-first false a f g = early (f refl)
 
+-- The result of an accepted call, from how it can answer.
+module _ {t : Table} {Early : Refusal → Type 0} {Ready : Type 0} {Full : Ready → Type 0} {Result : Ready → Table → Type 0} where
+  pub result : {a : Answered} → Outcome t Early Ready Full Result a → a .answer ≡ Accepted
+      → (ready : Ready) × Result ready (a .table)
+  result (early h) e = absurd (let z : _≡_ {A = ℕ} 0 1 = cc in omega arith)
+  result (full ready f) e = absurd (let z : _≡_ {A = ℕ} 0 1 = cc in omega arith)
+  result (accepted ready n h) e = (ready, h)
+
 -- ---- Convert
 
 -- Converted groups are exactly those of the row; 2, then 4, then 8 where some string of it needs entry 257.

@@ -1,8 +1,6 @@
 -- Entries past the count are zero in every accepted result (01, "Refusals"). Assumes nothing.
-use mathlib.Core.Path.{_≡_}
 use mathlib.Core.List.{List}
 use Prim.Native.Nat.{ℕ}
-use native.Mathlib.Omega.{arith}
 use Rattle.model.specs.Tables.{Side}
 use Rattle.tables.specs.declared.Table.{Table}
 use Rattle.tables.specs.declared.Refusal.{Refusal}
@@ -10,16 +8,15 @@ use Rattle.tables.specs.declared.Answered.{Answered}
 use Rattle.tables.specs.Values.{GoodTable}
 use Rattle.tables.proofs.Checking.{good-past}
 use Rattle.sharing.specs.Calls.{convert-call, equation-call, join-call, projection-call, change-side-call}
-use Rattle.sharing.specs.Outcomes.{TableValue, Outcome, early, full, accepted, ZeroPast}
-use Rattle.sharing.proofs.Demand2.{convert-outcome, equation-outcome, join-outcome, projection-outcome, change-outcome}
+use Rattle.sharing.specs.Outcomes.{TableValue, Outcome, ZeroPast}
+use Rattle.sharing.proofs.Demand2.{result, convert-outcome, equation-outcome, join-outcome, projection-outcome}
+use Rattle.sharing.proofs.Demand2.{change-outcome}
 
 -- a call whose results are good tables
 module _ {t : Table} {Early : Refusal → Type 0} {Ready : Type 0} {Full : Ready → Type 0} {Result : Ready → Table → Type 0}
     (good : (ready : Ready) (u : Table) → Result ready u → GoodTable u) where
   good-zero : {a : Answered} → Outcome t Early Ready Full Result a → ZeroPast a
-  good-zero (early e) h = absurd (let z : _≡_ {A = ℕ} 0 1 = cc in omega arith)
-  good-zero (full ready f) h = absurd (let z : _≡_ {A = ℕ} 0 1 = cc in omega arith)
-  good-zero (accepted ready {u} f k) h = good-past (good ready u k)
+  good-zero outcome h = let m = result outcome h in good-past (good (m .0) _ (m .1))
 
 -- The table that a conversion of groups makes is zero past its count.
 pub convert-past : (l : ℕ) (ws : List ℕ) → ZeroPast (convert-call l ws)
