@@ -26,7 +26,7 @@ use Rattle.tables.specs.Values.{check-table, table-of, accepts, made-or-full, g
 use Rattle.tables.proofs.Values.{entries-of-table}
 use Rattle.tables.proofs.Checking.{good-passes}
 use Rattle.terms.specs.Checks as C
-use Rattle.conversion.specs.Conversion.{all-below}
+use Rattle.lists.specs.Lists.{all-below}
 use Rattle.sharing.specs.Calls.{convert-call}
 use Rattle.sharing.specs.Outcomes.{groups-of}
 use Rattle.questions.specs.declared.Reply.{Reply}

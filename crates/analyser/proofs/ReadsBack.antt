@@ -22,7 +22,7 @@ use Rattle.tables.specs.declared.Answer.the-variants.{Accepted, Refused}
 use Rattle.tables.specs.declared.Answered.{Answered}
 use Rattle.tables.specs.Values.{entries-of, accepts, refuses, made-or-full, good-width, check-table, GoodTable}
 use Rattle.tables.specs.Values.{zero-table}
-use Rattle.conversion.specs.Conversion.{all-below}
+use Rattle.lists.specs.Lists.{all-below}
 use Rattle.sharing.specs.Calls.{convert-call}
 use Rattle.tables.proofs.Values.{entries-of-table, table-of-good}
 use Rattle.tables.proofs.Tests.{both-true}

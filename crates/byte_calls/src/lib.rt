@@ -36,7 +36,7 @@ pub fn equation_term(side: Side, t: Table, x: u32, term: &[u8]) -> Answered
                 let n = term.len() / 2;
                 let row = codec::tokens_at(term, 0, n);
                 let tokens: &[u16] = &row;
-                sharing::equation(side, t, x, &tokens[..n])
+                sharing::equation_checked(side, t, x, &tokens[..n])
             }
         },
     }

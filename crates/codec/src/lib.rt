@@ -20,22 +20,7 @@ pub fn number_at(b: &[u8], at: usize) -> u16
     wide(b[at]) + 256 * wide(b[at + 1])
 }
 
-// The n numbers from an index on, then zeros: care words or value words.
-pub fn words_at(b: &[u8], at: usize, n: usize) -> [u32; 256]
-    requires { ⌜ (n ≤ 256) × (at + 2 * n ≤ length (now b)) ⌝ }
-    ensures { λ r. ⌜ r ≡ with-zeros 256 (numbers n (drop at (now (b .entry)))) ⌝ }
-{
-    let mut out = [0u32; 256];
-    let mut i = 0;
-    while i < n {
-        let w = number_at(b, at + 2 * i);
-        out[i] = w as u32;
-        i += 1;
-    }
-    out
-}
-
-// The same of tokens.
+// The n numbers from an index on, then zeros: tokens.
 pub fn tokens_at(b: &[u8], at: usize, n: usize) -> [u16; 1024]
     requires { ⌜ (n ≤ 1024) × (at + 2 * n ≤ length (now b)) ⌝ }
     ensures { λ r. ⌜ r ≡ with-zeros 1024 (numbers n (drop at (now (b .entry)))) ⌝ }

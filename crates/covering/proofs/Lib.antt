@@ -1,4 +1,7 @@
 pub mod Every
 pub mod Splitting
 pub mod Pieces
-pub mod Forcing
+pub mod Narrowing
+pub mod Inclusion
+pub mod Firsts
+pub mod Meeting

@@ -6,6 +6,7 @@ use mathlib.Core.Path.{_≡_, refl, sym, ap, _∙_}
 use Prim.Native.Nat.{ℕ, zero, suc, _+_, _<_, suc-le-suc, zero-le}
 use native.Mathlib.Omega.{arith}
 use borrow.Author.Count.{below-more}
+use borrow.Author.Tests.{not-true}
 use lib.Dec.{T}
 use lib.ListN.{length, getD}
 use Rattle.model.specs.Groups.{Bits, nonzero}
@@ -13,30 +14,30 @@ use Rattle.model.specs.Strings.{t0, t1, t*, Trits, covers, matches, subsumes, a
 use Rattle.model.specs.Growth.{Entries, covered}
 use Rattle.model.specs.Questions.{every-group}
 use Rattle.model.proofs.Positions.{opposed-length}
-use Rattle.model.proofs.Strings.{covers-length, some-covered, subsumes-covers, both-match}
+use Rattle.model.proofs.Strings.{covers-length, some-covered, subsumes-covers, zero-covers, both-match}
 use Rattle.model.proofs.Tests.{true-of}
-use Rattle.words.specs.declared.Entry.{Entry}
 use Rattle.words.specs.Words.{word}
 use Rattle.covering.specs.Covering.{agreed, all-covered}
-use Rattle.covering.proofs.Every.{bool-ext, implies, implied, group-true, group-at, group-ext, group-and}
+use Rattle.covering.proofs.Every.{test, left, right, bool-ext, implies, implied, group-true, group-at, group-ext}
+use Rattle.covering.proofs.Every.{group-and}
 use Rattle.covering.proofs.Splitting.{split-covers, agreed-length, agreed-matches, agreed-keeps, agreed-fixes}
 use Rattle.covering.proofs.Splitting.{subsumes-fixed}
 
-pub test : {p : Bool} → p ≡ true → T p
-test e = rw e tt
-
 -- ---- A list covers g where an entry does
 
+-- the second of two tests is true
 or-right : (p q : Bool) → q ≡ true → (p || q) ≡ true
 or-right true q h = refl
 or-right false q h = h
 
+-- an entry that covers g
 pub covered-at : (τ : Entries) (g : Bits) (i : ℕ) → i < length τ → covers (getD τ i []) g ≡ true → covered τ g ≡ true
 unfolding covered
 covered-at [] g i n h = absurd (omega arith)
 covered-at (s ∷ τ) g zero n h = ap (λ (b : Bool). b || covered τ g) h
 covered-at (s ∷ τ) g (suc i) n h = or-right (covers s g) _ (covered-at τ g i (omega arith) h)
 
+-- and the other way round
 covered-of : (τ : Entries) (g : Bits) → covered τ g ≡ true → (i : ℕ) × (i < length τ) × (covers (getD τ i []) g ≡ true)
 unfolding covered
 covered-of [] g h = absurd (false≢true h)
@@ -47,18 +48,9 @@ covered-of (s ∷ τ) g h = go (covered-of τ g) (covers s g) refl h
     go more true c k = (0, suc-le-suc zero-le, c)
     go more false c k = let r = more k in (suc (r .0), suc-le-suc (r .1), r .2)
 
--- ---- The all-zero string covers no group, and any other covers one
+-- ---- A string that is not all zero covers a group
 
-zero-none : (s : Trits) (g : Bits) → all-zero s ≡ true → covers s g ≡ true → nonzero g ≡ true → ⊥
-unfolding all-zero covers nonzero
-zero-none [] [] z c o = false≢true o
-zero-none [] (b ∷ g) z c o = false≢true c
-zero-none (t ∷ s) [] z c o = false≢true c
-zero-none (t0 ∷ s) (true ∷ g) z c o = false≢true c
-zero-none (t0 ∷ s) (false ∷ g) z c o = zero-none s g z c o
-zero-none (t1 ∷ s) (b ∷ g) z c o = false≢true z
-zero-none (t* ∷ s) (b ∷ g) z c o = false≢true z
-
+-- it has a 1 or a `*`, which covers 1
 some-group : (s : Trits) → all-zero s ≡ false → (g : Bits) × T (covers s g) × (nonzero g ≡ true)
 unfolding all-zero covers nonzero
 some-group [] z = absurd (false≢true (sym z))
@@ -83,7 +75,7 @@ module _ (l : ℕ) (τ : Entries) where
   unfolding all-covered
   covered-none s n none =
       bool-ext (all-zero s) _
-      (λ z. group-true l _ (λ g e o. implies (covers s g) _ (λ c. absurd (zero-none s g z c o))))
+      (λ z. group-true l _ (λ g e o. implies (covers s g) _ (λ c. absurd (zero-covers s g (test z) (test c) (test o)))))
       (λ h. go (all-zero s) refl h)
     where
       go : (b : Bool) → all-zero s ≡ b → every-group l (λ g. not (covers s g) || covered τ g) ≡ true → b ≡ true
@@ -116,7 +108,7 @@ module _ (l : ℕ) (τ : Entries) where
 
 -- What is left of s once the pieces before position i are known to be covered: z is its word, and it is fixed wherever the
 -- matching string v is fixed before i.
-pub record Left (l i : ℕ) (τ : Entries) (v s : Trits) (z : Entry) : Type 0 where
+pub record Left (l i : ℕ) (τ : Entries) (v s : Trits) (z : ℕ) : Type 0 where
   pub rest : Trits
   pub is : z ≡ word rest
   pub long : length rest ≡ l
@@ -124,18 +116,20 @@ pub record Left (l i : ℕ) (τ : Entries) (v s : Trits) (z : Entry) : Type 0 wh
   pub agree : (k : ℕ) → k < i → fixed k v ≡ true → fixed k rest ≡ true
   pub same : all-covered l τ s ≡ all-covered l τ rest
 
-pub left-start : (l : ℕ) (τ : Entries) (v s : Trits) (y : Entry) → length s ≡ l → y ≡ word s → matches v s ≡ true
+-- before the first position all is left
+pub left-start : (l : ℕ) (τ : Entries) (v s : Trits) (y : ℕ) → length s ≡ l → y ≡ word s → matches v s ≡ true
     → Left l 0 τ v s y
 left-start l τ v s y n e m =
     record { rest = s; is = e; long = n; match = m; agree = λ k h. absurd (omega arith); same = refl }
 
+-- what is not split is fixed in both or open in v
 no-split : (p q : Bool) → (p && not q) ≡ false → p ≡ true → q ≡ true
 no-split true true h e = refl
 no-split true false h e = sym h
 no-split false q h e = absurd (false≢true e)
 
 -- nothing to split at i
-pub left-pass : (l i : ℕ) (τ : Entries) (v s : Trits) (z : Entry) (a : Left l i τ v s z)
+pub left-pass : (l i : ℕ) (τ : Entries) (v s : Trits) (z : ℕ) (a : Left l i τ v s z)
     → (fixed i v && not (fixed i (a .rest))) ≡ false → Left l (i + 1) τ v s z
 left-pass l i τ v s z a h = record {
   rest = a .rest;
@@ -146,41 +140,38 @@ left-pass l i τ v s z a h = record {
   same = a .same;
 }
 
-fixed-there : (p q : Bool) → (p && not q) ≡ true → p ≡ true
-fixed-there true q h = refl
-fixed-there false q h = h
-
-free-here : (p q : Bool) → (p && not q) ≡ true → q ≡ false
-free-here true true h = sym h
-free-here true false h = refl
-free-here false q h = absurd (false≢true h)
-
 -- a split at i
-module _ (l i : ℕ) (τ : Entries) (v s : Trits) (z : Entry) (a : Left l i τ v s z) (long : length v ≡ l)
+module _ (l i : ℕ) (τ : Entries) (v s : Trits) (z : ℕ) (a : Left l i τ v s z) (long : length v ≡ l)
     (split : (fixed i v && not (fixed i (a .rest))) ≡ true) where
+  -- v is fixed there
   in-v : fixed i v ≡ true
-  in-v = fixed-there _ (fixed i (a .rest)) split
+  in-v = left _ _ split
 
+  -- what is left is not
   in-rest : fixed i (a .rest) ≡ false
-  in-rest = free-here (fixed i v) _ split
+  in-rest = not-true _ (right (fixed i v) _ split)
 
+  -- both have l positions
   alike : length (a .rest) ≡ length v
   alike = a .long ∙ sym long
 
+  -- what is left falls into two
   two : all-covered l τ s ≡ (all-covered l τ (opposed i v (a .rest)) && all-covered l τ (agreed i v (a .rest)))
   two = a .same ∙ covered-split l τ i v (a .rest) alike in-rest in-v
 
   -- what `opposed` and `covered` ensure, put together: r is the answer for the piece
-  pub answer : (piece : Entry) (r : Bool)
+  pub answer : (piece : ℕ) (r : Bool)
       → (length (a .rest) ≡ length v → fixed i (a .rest) ≡ false → fixed i v ≡ true → piece ≡ word (opposed i v (a .rest)))
       → ((u : Trits) → length u ≡ l → piece ≡ word u → r ≡ all-covered l τ u) → all-covered l τ (opposed i v (a .rest)) ≡ r
   answer piece r made called =
       sym (called (opposed i v (a .rest)) (opposed-length i v (a .rest) ∙ a .long) (made alike in-rest in-v))
 
+  -- a piece that is not covered decides
   pub left-fail : all-covered l τ (opposed i v (a .rest)) ≡ false → false ≡ all-covered l τ s
   left-fail h = sym (two ∙ ap (λ (b : Bool). b && all-covered l τ (agreed i v (a .rest))) h)
 
-  pub left-next : (w : Entry)
+  -- a piece that is covered is left out
+  pub left-next : (w : ℕ)
       → (length (a .rest) ≡ length v → fixed i (a .rest) ≡ false → fixed i v ≡ true → w ≡ word (agreed i v (a .rest)))
       → all-covered l τ (opposed i v (a .rest)) ≡ true → Left l (i + 1) τ v s w
   left-next w made h = record {
@@ -193,7 +184,8 @@ module _ (l i : ℕ) (τ : Entries) (v s : Trits) (z : Entry) (a : Left l i τ v
     same = two ∙ ap (λ (b : Bool). b && all-covered l τ (agreed i v (a .rest))) h;
   }
 
-pub left-done : (l at : ℕ) (τ : Entries) (s : Trits) (z : Entry) → at < length τ → length (getD τ at []) ≡ l
+-- at the end v subsumes what is left
+pub left-done : (l at : ℕ) (τ : Entries) (s : Trits) (z : ℕ) → at < length τ → length (getD τ at []) ≡ l
     → Left l l τ (getD τ at []) s z → true ≡ all-covered l τ s
 left-done l at τ s z h long a =
     covered-whole l τ (a .rest) at h

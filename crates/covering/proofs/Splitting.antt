@@ -1,108 +1,169 @@
--- A string with one position more fixed, to another's value there or to the opposite: its words, and what it covers.
+-- A string with one position more fixed, to another's value there or to the opposite: its word, and what it covers.
 -- Assumes nothing.
-use mathlib.Core.Bool.{Bool, true, false, not, _&&_, _||_, false≢true, and-or-distrib-left, Bool·not-not}
-use mathlib.Core.List.{[], _∷_}
+use mathlib.Core.Bool.{Bool, true, false, not, _&&_, _||_, false≢true, and-or-distrib-left}
+use mathlib.Core.List.{[], _∷_, map}
 use mathlib.Core.Path.{_≡_, refl, sym, ap, ap₂, _∙_}
-use Prim.Native.Nat.{ℕ, zero, suc, _+_, _*_, _%_, _^_, _<_, _≤_, suc-le-suc, zero-le}
-use native.Mathlib.Nat.{pow-suc}
+use Prim.Native.Nat.{ℕ, zero, suc, _+_, _-_, _*_, _/_, _%_, _^_, _<_, _≤_, suc-le-suc, zero-le}
+use native.Mathlib.Nat.{mod-lt}
 use native.Mathlib.Omega.{arith}
 use borrow.Author.Tests.{eqb-true}
-use lib.Bits.{bitAnd, bitOr, bitXor, and-block, or-block, and-zero-r, or-zero-r, and-lt, or-lt, xor-lt, or-disjoint}
-use lib.Count.{ones, ones-le}
-use lib.Dec.{lit<, eqb}
-use lib.ListN.{length}
-use lib.Pow.{pow-pos}
+use lib.Bits.{bitAnd, bitOr, and-block, and-zero-r, and-high, and-lt, and-le-l, and-le-r, or-add-and, or-disjoint, or-shr, or-mod}
+use lib.Dec.{eqb, lit<}
+use lib.ListN.{length, getD, length-map}
+use lib.Pow.{pow-pos, pow-lt, pow-add, split}
 use Rattle.model.specs.Groups.{Bits}
 use Rattle.model.specs.Strings.{Trit, t0, t1, t*, Trits, covers-digit, match-digit, subsumes-digit, fixed-digit, flip}
 use Rattle.model.specs.Strings.{covers, matches, subsumes, fixed, opposed}
-use Rattle.words.specs.declared.Entry.{Entry}
-use Rattle.words.specs.Words.{care-bit, value-bit, care-of, value-of, word, fixed-words, opposed-words}
-use Rattle.words.proofs.Digits.{value-bit-lt}
-use Rattle.words.proofs.Positions.{one-shl, fixed-word, opposed-word}
+use Rattle.words.specs.Words.{care-of, set-word, word, high, low, halves, both as both-halves, fixed-word, opposite-word}
+use Rattle.words.specs.Words.{opposed-word}
+use Rattle.words.proofs.Codec.{set-bit}
+use Rattle.words.proofs.Digits.{put}
+use Rattle.words.proofs.Halves.{high-lt, low-lt}
+use Rattle.words.proofs.Words.{word-opposite}
+use Rattle.words.proofs.Positions.{one-shl, both-joined, word-opposed}
 use Rattle.covering.specs.Covering.{agreed}
 use Rattle.covering.proofs.Every.{both, left, right}
 
--- ---- The words of a string that agrees at i
+-- ---- The word of a string that agrees at i: to agree is to oppose the opposite
 
--- where v is fixed, the two strings are fixed alike
-agree-care : (i : ℕ) (v y : Trits) → fixed i v ≡ true → care-of (opposed i v y) ≡ care-of (agreed i v y)
-unfolding care-of agreed opposed fixed
-agree-care i [] y h = absurd (false≢true h)
-agree-care i (u ∷ v) [] h = refl
-agree-care zero (t0 ∷ v) (t ∷ y) h = refl
-agree-care zero (t1 ∷ v) (t ∷ y) h = refl
-agree-care zero (t* ∷ v) (t ∷ y) h = refl
-agree-care (suc i) (u ∷ v) (t ∷ y) h = ap (λ (x : ℕ). x * 2 + care-bit t) (agree-care i v y h)
+-- the opposite of the opposite
+flip-back : (v : Trits) → map flip (map flip v) ≡ v
+flip-back [] = refl
+flip-back (t0 ∷ v) = ap (λ (r : Trits). t0 ∷ r) (flip-back v)
+flip-back (t1 ∷ v) = ap (λ (r : Trits). t1 ∷ r) (flip-back v)
+flip-back (t* ∷ v) = ap (λ (r : Trits). t* ∷ r) (flip-back v)
 
-agree-bit : (u t : Trit) → fixed-digit t ≡ false → bitOr (value-bit t) (bitAnd (value-bit u) 1) ≡ value-bit u
-agree-bit t0 t* k = refl
-agree-bit t1 t* k = refl
-agree-bit t* t* k = refl
-agree-bit u t0 k = absurd (false≢true (sym k))
-agree-bit u t1 k = absurd (false≢true (sym k))
+-- to agree with v is to oppose its opposite
+agreed-opposed : (i : ℕ) (v y : Trits) → opposed i (map flip v) y ≡ agreed i v y
+unfolding agreed opposed
+agreed-opposed i [] [] = refl
+agreed-opposed i [] (t ∷ y) = refl
+agreed-opposed i (u ∷ v) [] = refl
+agreed-opposed zero (t0 ∷ v) (t ∷ y) = refl
+agreed-opposed zero (t1 ∷ v) (t ∷ y) = refl
+agreed-opposed zero (t* ∷ v) (t ∷ y) = refl
+agreed-opposed (suc i) (u ∷ v) (t ∷ y) = ap (λ (r : Trits). t ∷ r) (agreed-opposed i v y)
 
-agree-value : (i : ℕ) (v y : Trits) → length y ≡ length v → fixed i y ≡ false → fixed i v ≡ true
-    → bitOr (value-of y) (bitAnd (value-of v) (2 ^ i)) ≡ value-of (agreed i v y)
-unfolding value-of agreed fixed
-agree-value i [] y n k h = absurd (false≢true h)
-agree-value i (u ∷ v) [] n k h = absurd (omega arith)
-agree-value zero (u ∷ v) (t ∷ y) n k h =
-    ap (bitOr (value-of y * 2 + value-bit t)) (and-block 1 (value-of v) 0 (value-bit u) 1 (value-bit-lt u) (lit< tt))
-    ∙ or-block 1 (value-of y) (bitAnd (value-of v) 0) (value-bit t) (bitAnd (value-bit u) 1) (value-bit-lt t)
-    (and-lt 1 (value-bit u) 1 (value-bit-lt u) (lit< tt))
-    ∙ ap₂ (λ (p q : ℕ). p * 2 + q) (ap (bitOr (value-of y)) (and-zero-r (value-of v)) ∙ or-zero-r (value-of y)) (agree-bit u t k)
-agree-value (suc i) (u ∷ v) (t ∷ y) n k h =
-    let p : 2 ^ suc i ≡ 2 ^ i * 2 + 0 = omega (arith, pow-suc 2 i) in
-    ap (bitOr (value-of y * 2 + value-bit t))
-    (ap (bitAnd (value-of v * 2 + value-bit u)) p ∙ and-block 1 (value-of v) (2 ^ i) (value-bit u) 0 (value-bit-lt u) (lit< tt))
-    ∙ or-block 1 (value-of y) (bitAnd (value-of v) (2 ^ i)) (value-bit t) (bitAnd (value-bit u) 0) (value-bit-lt t)
-    (and-lt 1 (value-bit u) 0 (value-bit-lt u) (lit< tt))
-    ∙ ap₂ (λ (p q : ℕ). p * 2 + q) (agree-value i v y (omega arith) k h)
-    (ap (bitOr (value-bit t)) (and-zero-r (value-bit u)) ∙ or-zero-r (value-bit t))
-
-pub agreed-word : (i : ℕ) (y v : Entry) (s t : Trits) → i < 32 → length s ≡ length t → y ≡ word s → v ≡ word t
-    → fixed i s ≡ false → fixed i t ≡ true
-    → record {
-      care = bitOr (y .care) ((1 * 2 ^ i) % 2 ^ 32);
-      value = bitOr (y .value) (bitAnd (v .value) ((1 * 2 ^ i) % 2 ^ 32));
-    } ≡ word (agreed i t s)
-unfolding opposed-words
-agreed-word i y v s t h n es et k f =
-    rw (one-shl i 32 h, es, et) (λ j. record {
-      care = (ap (λ (e : Entry). e .care) (opposed-word i t s n k f) ∙ agree-care i t s f) j;
-      value = agree-value i t s n k f j;
-    })
+-- as the code makes it
+pub agreed-word : (i y v : ℕ) (s t : Trits) → i < 32 → length s ≡ length t → length s ≤ 32 → y ≡ word s → v ≡ word t
+    → fixed i s ≡ false
+    → bitOr y (bitAnd v (bitOr (((1 * 2 ^ i) % 2 ^ 64 * 2 ^ 32) % 2 ^ 64) ((1 * 2 ^ i) % 2 ^ 64))) ≡ word (agreed i t s)
+unfolding opposed-word
+agreed-word i y v s t h n short es et k =
+    let f : length (map flip t) ≡ length t = length-map t flip in
+    let back : opposite-word (word (map flip t)) ≡ word t =
+    word-opposite (map flip t) (rw (f, ← n) short) ∙ ap word (flip-back t) in
+    rw (one-shl i 64 (omega arith), both-joined i h, es, et)
+    (ap (λ (x : ℕ). bitOr (word s) (bitAnd x (both-halves i))) (sym back)
+    ∙ word-opposed i h (map flip t) s (n ∙ sym f) short k
+    ∙ ap word (agreed-opposed i t s))
 
 -- ---- The test of a position to split
 
-pub splits-clear : (i : ℕ) (y v : Entry) → i < 32
-    → (not (eqb (bitAnd (v .care) ((1 * 2 ^ i) % 2 ^ 32)) 0) && eqb (bitAnd (y .care) ((1 * 2 ^ i) % 2 ^ 32)) 0) ≡ true
-    → bitAnd (y .care) (2 ^ i) ≡ 0
-splits-clear i y v h e =
-    rw (one-shl i 32 h) at (eqb-true (bitAnd (y .care) ((1 * 2 ^ i) % 2 ^ 32)) 0
-    (right (not (eqb (bitAnd (v .care) ((1 * 2 ^ i) % 2 ^ 32)) 0)) _ e))
+-- a bit of the care word
+care-set : (s : Trits) → care-of s ≡ set-word (map fixed-digit s)
+unfolding care-of set-word
+care-set [] = refl
+care-set (t0 ∷ s) = put (care-set s) refl
+care-set (t1 ∷ s) = put (care-set s) refl
+care-set (t* ∷ s) = put (care-set s) refl
 
-pub splits-word : (i : ℕ) (y v : Entry) (s t : Trits) → i < 32 → y ≡ word s → v ≡ word t
-    → (not (eqb (bitAnd (v .care) ((1 * 2 ^ i) % 2 ^ 32)) 0) && eqb (bitAnd (y .care) ((1 * 2 ^ i) % 2 ^ 32)) 0)
-    ≡ (fixed i t && not (fixed i s))
-unfolding fixed-words
-splits-word i y v s t h es et =
-    rw (one-shl i 32 h, es, et) (ap₂ _&&_ (fixed-word i t) (sym (Bool·not-not _) ∙ ap not (fixed-word i s)))
+-- a position of the set of fixed ones
+fixed-at : (i : ℕ) (s : Trits) → getD (map fixed-digit s) i false ≡ fixed i s
+unfolding fixed
+fixed-at zero [] = refl
+fixed-at (suc i) [] = refl
+fixed-at zero (t ∷ s) = refl
+fixed-at (suc i) (t ∷ s) = fixed-at i s
 
--- one bit more makes a greater word
-pub or-more : (a i : ℕ) → bitAnd a (2 ^ i) ≡ 0 → a < bitOr a (2 ^ i)
-or-more a i h = omega (arith, or-disjoint a (2 ^ i) h, pow-pos i)
+-- position i is fixed where bit i of the care word is 1
+fixed-bit : (i : ℕ) (s : Trits) → eqb (care-of s / 2 ^ i % 2) 1 ≡ fixed i s
+fixed-bit i s = rw (care-set s) (set-bit (map fixed-digit s) i ∙ fixed-at i s)
 
--- an opposed string's too
-pub opposed-more : (i : ℕ) (y v r : Entry) → bitAnd (y .care) (2 ^ i) ≡ 0 → r ≡ opposed-words i v y → y .care < r .care
-unfolding opposed-words
-opposed-more i y v r h e = rw (ap (λ (x : Entry). x .care) e) (or-more (y .care) i h)
+-- a digit is 0 where it is not 1
+not-one : (d : ℕ) → d < 2 → eqb d 0 ≡ not (eqb d 1)
+not-one zero h = refl
+not-one (suc zero) h = refl
+not-one (suc (suc d)) h = absurd (omega arith)
 
-pub few-pieces : (v y : ℕ) → v < 2 ^ 32 → y < 2 ^ 32 → ones (bitXor (bitOr v y) y) ≤ 32
-few-pieces v y h k = ones-le 32 _ (xor-lt 32 (bitOr v y) y (or-lt 32 v y h k) k)
+-- as the code tests it
+pub splits-word : (i c d : ℕ) (s t : Trits) → c ≡ care-of t → d ≡ care-of s
+    → (eqb (c / 2 ^ i % 2) 1 && eqb (d / 2 ^ i % 2) 0) ≡ (fixed i t && not (fixed i s))
+splits-word i c d s t et es =
+    rw (et, es)
+    (ap₂ _&&_ (fixed-bit i t) (not-one (care-of s / 2 ^ i % 2) (mod-lt _ (lit< tt)) ∙ ap not (fixed-bit i s)))
+
+-- ---- An opposed string's word is greater
+
+-- a word with more bits is no less
+pub or-more : (a b : ℕ) → (a ≤ bitOr a b) × (b ≤ bitOr a b)
+or-more a b = (omega (arith, or-add-and a b, and-le-r a b), omega (arith, or-add-and a b, and-le-l a b))
+
+-- the bit of position i
+abbrev bit : ℕ → ℕ → ℕ
+bit x i = x / 2 ^ i % 2
+
+-- what a word has at position i
+and-bit : (x i : ℕ) → bitAnd x (2 ^ i) ≡ bit x i * 2 ^ i
+and-bit x i =
+    let e : 2 ^ (1 + i) - 2 ^ i ≡ 2 ^ i = omega (arith, pow-add 2 1 i) in
+    ap (bitAnd x) (sym e) ∙ and-high x 1 i
+
+-- a bit of two words
+or-bit : (x y i : ℕ) → bit (bitOr x y) i ≡ bitOr (bit x i) (bit y i)
+or-bit x y i = ap (λ (z : ℕ). z % 2) (or-shr x y i) ∙ or-mod (x / 2 ^ i) (y / 2 ^ i) 1
+
+-- where a word has no 1 at position i, it has none in common with what another has there
+no-common : (x v i : ℕ) → bit x i ≡ 0 → bitAnd x (bitAnd v (2 ^ i)) ≡ 0
+no-common x v i z = rw (and-bit v i) (go (bit v i) (mod-lt (v / 2 ^ i) (lit< tt)))
+  where
+    go : (d : ℕ) → d < 2 → bitAnd x (d * 2 ^ i) ≡ 0
+    go zero h = let e : 0 * 2 ^ i ≡ 0 = omega arith in rw e (and-zero-r x)
+    go (suc zero) h = let e : 1 * 2 ^ i ≡ 2 ^ i = omega arith in rw (e, and-bit x i, z) (omega arith)
+    go (suc (suc d)) h = absurd (omega arith)
+
+-- nothing there: no 1
+no-bit : (x i : ℕ) → bitAnd x (2 ^ i) ≡ 0 → bit x i ≡ 0
+no-bit x i e = go (bit x i) (mod-lt (x / 2 ^ i) (lit< tt)) (sym (and-bit x i) ∙ e)
+  where
+    go : (d : ℕ) → d < 2 → d * 2 ^ i ≡ 0 → d ≡ 0
+    go zero h z = refl
+    go (suc zero) h z = absurd (omega (arith, pow-pos i))
+    go (suc (suc d)) h z = absurd (omega arith)
+
+-- two words of which neither has a bit
+or-none : (p q : ℕ) → bitOr p q ≡ 0 → (p ≡ 0) × (q ≡ 0)
+or-none p q e =
+    let m = or-more p q in
+    (omega arith, omega arith)
+
+-- v is fixed at i, y is not
+pub opposed-more : (i y v c d : ℕ) → i < 32 → v < 2 ^ 64 → c ≡ fixed-word v → d ≡ fixed-word y
+    → (eqb (bit c i) 1 && eqb (bit d i) 0) ≡ true → y < opposed-word i v y
+unfolding fixed-word opposite-word both-halves opposed-word
+opposed-more i y v c d h k ec ed e =
+    let at-i : ℕ → ℕ = λ x. bit x i in
+    let one = sym (or-bit (high v) (low v) i) ∙ sym (ap at-i ec) ∙ eqb-true (bit c i) 1 (left _ _ e) in
+    let none = or-none (bit (high y) i) (bit (low y) i)
+    (sym (or-bit (high y) (low y) i) ∙ sym (ap at-i ed) ∙ eqb-true (bit d i) 0 (right (eqb (bit c i) 1) _ e)) in
+    let a = bitAnd (low v) (2 ^ i) in
+    let b = bitAnd (high v) (2 ^ i) in
+    let small = and-lt 32 (high v) (2 ^ i) (high-lt v k) (pow-lt h) in
+    let apart : bitAnd y (halves a b) ≡ 0 =
+    ap (λ (z : ℕ). bitAnd z (halves a b)) (sym (split y 32))
+    ∙ and-block 32 (high y) a (low y) b (low-lt y) small
+    ∙ ap₂ halves (no-common (high y) (low v) i (none .0)) (no-common (low y) (high v) i (none .1)) in
+    let some : ¬ (halves a b ≡ 0) = λ z.
+    let p = no-bit (low v) i (omega arith) in
+    let q = no-bit (high v) i (omega arith) in
+    absurd (omega (arith, ap₂ bitOr q p, one)) in
+    let made : opposed-word i v y ≡ y + halves a b =
+    ap (bitOr y) (and-block 32 (low v) (2 ^ i) (high v) (2 ^ i) (high-lt v k) (pow-lt h)) ∙ or-disjoint y (halves a b) apart in
+    omega (arith, made, some)
 
 -- ---- What the two strings cover
 
+-- a digit is covered by a fixed position or by its opposite
 either-digit : (u : Trit) (b : Bool) → fixed-digit u ≡ true → (covers-digit (flip u) b || covers-digit u b) ≡ true
 either-digit t0 true h = refl
 either-digit t0 false h = refl
@@ -110,6 +171,7 @@ either-digit t1 true h = refl
 either-digit t1 false h = refl
 either-digit t* b h = absurd (false≢true h)
 
+-- two tests of which one is true
 head-split : (p q c : Bool) → (p || q) ≡ true → c ≡ (p && c || q && c)
 head-split true true true h = refl
 head-split true true false h = refl
@@ -117,6 +179,7 @@ head-split true false true h = refl
 head-split true false false h = refl
 head-split false q c h = sym (ap (λ (b : Bool). b && c) h)
 
+-- `*` covers every digit
 free-digit : (t : Trit) (b : Bool) → fixed-digit t ≡ false → covers-digit t b ≡ true
 free-digit t0 b h = absurd (false≢true (sym h))
 free-digit t1 b h = absurd (false≢true (sym h))
@@ -139,6 +202,7 @@ split-covers (suc i) (u ∷ v) (t ∷ y) (b ∷ g) n k h =
 
 -- ---- The string that agrees
 
+-- it is as long as y
 pub agreed-length : (i : ℕ) (v y : Trits) → length (agreed i v y) ≡ length y
 unfolding agreed
 agreed-length i [] y = refl
@@ -146,11 +210,13 @@ agreed-length i (u ∷ v) [] = refl
 agreed-length zero (u ∷ v) (t ∷ y) = refl
 agreed-length (suc i) (u ∷ v) (t ∷ y) = ap suc (agreed-length i v y)
 
+-- a position matches itself
 match-self : (u : Trit) → match-digit u u ≡ true
 match-self t0 = refl
 match-self t1 = refl
 match-self t* = refl
 
+-- it matches v where y does
 pub agreed-matches : (i : ℕ) (v y : Trits) → matches v y ≡ true → matches v (agreed i v y) ≡ true
 unfolding matches agreed
 agreed-matches i [] y h = h
@@ -177,6 +243,7 @@ agreed-fixes i (u ∷ v) [] n h = absurd (omega arith)
 agreed-fixes zero (u ∷ v) (t ∷ y) n h = h
 agreed-fixes (suc i) (u ∷ v) (t ∷ y) n h = agreed-fixes i v y (omega arith) h
 
+-- one position
 fixed-subsumes : (u t : Trit) → match-digit u t ≡ true → (fixed-digit u ≡ true → fixed-digit t ≡ true)
     → subsumes-digit u t ≡ true
 fixed-subsumes t0 t0 m f = refl

@@ -15,13 +15,13 @@ use Rattle.model.specs.Tables.{Side, groups}
 use Rattle.model.specs.Questions.{Equal}
 use Rattle.model.proofs.Shape.{regrown}
 use Rattle.words.specs.declared.Entry.{Entry}
-use Rattle.words.specs.Words.{word, care-of, value-of, string}
+use Rattle.words.specs.Words.{entry, care-of, value-of, string}
 use Rattle.words.proofs.Codec.{care-lt, value-lt, value-in}
 use Rattle.tables.specs.declared.Table.{Table}
 use Rattle.tables.specs.declared.Answer.the-variants.{Accepted}
-use Rattle.tables.specs.Lists.{padded, list-words, Holds, pairs, strings}
+use Rattle.tables.specs.Lists.{padded, list-words, Stores, pairs, strings}
 use Rattle.tables.specs.Values.{table-of, entries-of, accepts, made-or-full, clean, entry-at, all-from, all-clean, GoodTable}
-use Rattle.tables.proofs.Arrays.{holds-at, holds-length}
+use Rattle.tables.proofs.Arrays.{stores-at, stores-length}
 use Rattle.tables.proofs.Checking.{good-holds, width-most}
 use Rattle.codec.specs.Numbers.{numbers, bytes}
 use Rattle.codec.proofs.Laws.{length-bytes, bytes-append, Narrow, number-pair, numbers-bytes}
@@ -62,7 +62,7 @@ unfolding all-from
 all-up p i zero f = refl
 all-up p i (suc n) f = rw (f i (omega arith)) (all-up p (suc i) n (λ m lt. f m (omega arith)))
 
-clean-word : (l : ℕ) (s : Trits) → length s ≡ l → clean l (word s) ≡ true
+clean-word : (l : ℕ) (s : Trits) → length s ≡ l → clean l (entry s) ≡ true
 unfolding clean
 clean-word l s e =
     rw (
@@ -74,28 +74,28 @@ clean-word l s e =
 
 -- ---- The words of a good table value
 
-module _ {l : ℕ} {care value : List ℕ} {n : ℕ} {τ : Entries} (h : Holds l care value n τ) where
+module _ {l : ℕ} {care value : List ℕ} {n : ℕ} {τ : Entries} (h : Stores l care value n τ) where
   -- the first n words of the arrays
   rows-long : (length (take n care) ≡ n) × (length (take n value) ≡ n)
   unfolding list-words padded
   rows-long =
       let ws = list-words τ in
-      let room : n ≤ length ws = rw (length-append, length-map τ word) (omega (arith, h .count)) in
+      let room : n ≤ length ws = rw (length-append, length-map τ entry) (omega (arith, h .count)) in
       let cs : n ≤ length care = rw (h .arrays .cares, length-map ws) room in
       let vs : n ≤ length value = rw (h .arrays .values, length-map ws) room in
       (length-take-le n care cs, length-take-le n value vs)
 
   rows-narrow : l ≤ 16 → Narrow (take n care) × Narrow (take n value)
   rows-narrow most = (
-    narrow-take n care (λ i lt. omega (arith, below i lt, care-lt (at i), ap (λ (e : Entry). e .care) (holds-at h i lt))),
-    narrow-take n value (λ i lt. omega (arith, below i lt, value-lt (at i), ap (λ (e : Entry). e .value) (holds-at h i lt))),
+    narrow-take n care (λ i lt. omega (arith, below i lt, care-lt (at i), ap (λ (e : Entry). e .care) (stores-at h i lt))),
+    narrow-take n value (λ i lt. omega (arith, below i lt, value-lt (at i), ap (λ (e : Entry). e .value) (stores-at h i lt))),
   )
     where
       at : ℕ → Trits
       at i = getD τ i []
 
       below : (i : ℕ) → i < n → 2 ^ length (at i) ≤ 2 ^ 16
-      below i lt = pow-mono {j = 16} (omega (arith, holds-length h i lt))
+      below i lt = pow-mono {j = 16} (omega (arith, stores-length h i lt))
 
   rows-clean : all-clean l n (take n care) (take n value) ≡ true
   unfolding all-clean
@@ -103,8 +103,8 @@ module _ {l : ℕ} {care value : List ℕ} {n : ℕ} {τ : Entries} (h : Holds l
       all-up (λ i. clean l (entry-at (take n care) (take n value) i)) 0 n
       (λ i lt.
       let here : i < n = omega arith in
-      rw (getD-take n care i 0 here, getD-take n value i 0 here, holds-at h i here)
-      (clean-word l (getD τ i []) (holds-length h i here)))
+      rw (getD-take n care i 0 here, getD-take n value i 0 here, stores-at h i here)
+      (clean-word l (getD τ i []) (stores-length h i here)))
 
   rows-strings : strings l (take n care) (take n value) n ≡ strings l care value n
   unfolding strings

@@ -1,98 +1,74 @@
--- The arrays that a reader fills hold the entries that are written. Assumes nothing.
-use mathlib.Core.Path.{_≡_, refl, ap, ap₂, subst, _∙_}
-use mathlib.Core.Bool.{Bool, true, _&&_}
-use mathlib.Core.List.{List, [], _∷_, _++_, map}
-use Prim.Native.Nat.{ℕ, zero, suc, _+_, _-_, _*_, _≤_, _<_}
-use native.Mathlib.Nat.{zero-add, add-zero}
+-- The words that a reader fills hold the entries that are written. Assumes nothing.
+use mathlib.Core.Path.{_≡_, refl, sym, ap, subst, _∙_}
+use mathlib.Core.Bool.{true}
+use mathlib.Core.List.{List, [], _∷_}
+use Prim.Native.Nat.{ℕ, zero, suc, _+_, _*_, _≤_, _<_}
+use native.Mathlib.Nat.{zero-add}
 use native.Mathlib.Omega.{arith}
-use lib.ListN.{length, getD, take, drop, length-append, length-replicate, getD-replicate, List·getD-append}
-use lib.Seq.{getD-append-add}
+use lib.ListN.{length, getD, drop}
 use Rattle.model.specs.Growth.{limit}
 use Rattle.words.specs.declared.Entry.{Entry}
-use Rattle.words.specs.Words.{string}
-use Rattle.tables.specs.Lists.{Holds, pairs, strings}
-use Rattle.tables.specs.Values.{clean, is-zero, entry-at, all-from, all-clean, zero-past}
-use Rattle.tables.proofs.Checking.{checked-holds}
-use Rattle.codec.specs.Numbers.{with-zeros}
+use Rattle.words.specs.Words.{string, word, word-of}
+use Rattle.words.proofs.Words.{word-of-entry}
+use Rattle.tables.specs.Lists.{pairs, strings}
+use Rattle.tables.specs.Values.{clean, entry-at, all-clean}
+use Rattle.tables.proofs.Checking.{all-at, clean-is}
+use Rattle.lists.specs.Lists.{Holds}
+use Rattle.codec.specs.Numbers.{number-at}
 use Rattle.codec.proofs.Laws.{length-numbers}
 use Rattle.forms.specs.Tables.{cares, values, written-entries}
+use Rattle.forms.proofs.Reading.{entries-wide}
+use Rattle.forms.proofs.Walking.{row-number}
 
--- ---- A test of all indexes
+-- ---- The strings of two rows
 
-all-same : (p q : ℕ → Bool) (i n : ℕ) → ((m : ℕ) → m < n → p (i + m) ≡ q (i + m)) → all-from i n p ≡ all-from i n q
-unfolding all-from
-all-same p q i zero f = refl
-all-same p q i (suc n) f =
-    let here : p i ≡ q i = subst (λ (k : ℕ). p k ≡ q k) (add-zero i) (f 0 (omega arith)) in
-    ap₂ {C = Bool} (λ a b. a && b) here
-    (all-same p q (suc i) n (λ m lt. subst (λ (k : ℕ). p k ≡ q k) (let s : i + suc m ≡ suc i + m = omega arith in s)
-    (f (suc m) (omega arith))))
+-- as many as the rows have words
+strings-count : (l : ℕ) (cs vs : List ℕ) (n : ℕ) → length cs ≡ n → length vs ≡ n → n ≡ length (strings l cs vs n)
+unfolding strings pairs
+strings-count l cs vs zero e f = refl
+strings-count l [] vs (suc n) e f = absurd (omega arith)
+strings-count l (c ∷ cs) [] (suc n) e f = absurd (omega arith)
+strings-count l (c ∷ cs) (v ∷ vs) (suc n) e f = ap suc (strings-count l cs vs n (omega arith) (omega arith))
 
-all-true : (i n : ℕ) → all-from i n (λ k. true) ≡ true
-unfolding all-from
-all-true i zero = refl
-all-true i (suc n) = all-true (suc i) n
+-- each is that of the words at its index
+strings-at : (l : ℕ) (cs vs : List ℕ) (n i : ℕ) → length cs ≡ n → length vs ≡ n → i < n
+    → getD (strings l cs vs n) i [] ≡ string l (entry-at cs vs i)
+unfolding strings pairs
+strings-at l cs vs zero i e f lt = absurd (omega arith)
+strings-at l [] vs (suc n) i e f lt = absurd (omega arith)
+strings-at l (c ∷ cs) [] (suc n) i e f lt = absurd (omega arith)
+strings-at l (c ∷ cs) (v ∷ vs) (suc n) zero e f lt = refl
+strings-at l (c ∷ cs) (v ∷ vs) (suc n) (suc i) e f lt = strings-at l cs vs n i (omega arith) (omega arith) (omega arith)
 
--- ---- A row with zeros past its end
+-- ---- The entries that are written
 
-module _ (n : ℕ) (ws : List ℕ) (len : length ws ≡ n) where
-  zeros-length : n ≤ limit → length (with-zeros limit ws) ≡ limit
-  unfolding with-zeros
-  zeros-length few = length-append ws _ ∙ omega (arith, len, length-replicate {A = ℕ} (limit - length ws) 0)
+module _ (n : ℕ) (b : List ℕ) where
+  -- The entry at an index.
+  abbrev pub written-at : ℕ → Entry
+  written-at = entry-at (cares n b) (values n b)
 
-  zeros-before : (i : ℕ) → i < n → getD (with-zeros limit ws) i 0 ≡ getD ws i 0
-  unfolding with-zeros
-  zeros-before i lt = List·getD-append ws _ 0 i (omega (arith, len))
+  -- it is made of the two numbers that stand at its places
+  pub entry-read : {c v : ℕ} (i : ℕ) → i < n → c ≡ number-at b (4 + 2 * i) → v ≡ number-at b (4 + 2 * n + 2 * i)
+      → record { care = c; value = v } ≡ written-at i
+  entry-read i lt ec ev = rw (ec, ev, row-number n 4 i b lt, row-number n (4 + 2 * n) i b lt)
 
-  zeros-after : (m : ℕ) → m < limit - n → getD (with-zeros limit ws) (n + m) 0 ≡ 0
-  unfolding with-zeros
-  zeros-after m lt =
-      let room : m < limit - length ws = omega (arith, len) in
-      rw (← len) (getD-append-add ws _ m 0 ∙ getD-replicate (limit - length ws) m 0 0 room)
-
-pairs-front : (cs vs ds us : List ℕ) (n : ℕ) → length cs ≡ n → length vs ≡ n
-    → take n (pairs (cs ++ ds) (vs ++ us)) ≡ take n (pairs cs vs)
-unfolding pairs
-pairs-front [] vs ds us n e f = rw (← e)
-pairs-front (c ∷ cs) [] ds us n e f = absurd (omega arith)
-pairs-front (c ∷ cs) (v ∷ vs) ds us zero e f = absurd (omega arith)
-pairs-front (c ∷ cs) (v ∷ vs) ds us (suc n) e f =
-    ap (λ (r : List Entry). record { care = c; value = v } ∷ r) (pairs-front cs vs ds us n (omega arith) (omega arith))
-
--- ---- Two such rows as arrays
-
-module _ (l n : ℕ) (b : List ℕ) (few : n ≤ limit) where
-  care-row : length (cares n b) ≡ n
-  care-row = length-numbers n (drop 4 b)
-
-  value-row : length (values n b) ≡ n
-  value-row = length-numbers n (drop (4 + 2 * n) b)
-
-  abbrev care : List ℕ
-  care = with-zeros limit (cares n b)
-
-  abbrev value : List ℕ
-  value = with-zeros limit (values n b)
-
-  pub same-clean : all-clean l n care value ≡ all-clean l n (cares n b) (values n b)
-  unfolding all-clean
-  same-clean =
-      all-same (λ i. clean l (entry-at care value i)) (λ i. clean l (entry-at (cares n b) (values n b) i)) 0 n
-      (λ m lt. rw (zero-add m, zeros-before n (cares n b) care-row m lt, zeros-before n (values n b) value-row m lt))
-
-  past : zero-past n care value ≡ true
-  unfolding zero-past is-zero
-  past =
-      all-same (λ i. is-zero (entry-at care value i)) (λ i. true) n (limit - n)
-      (λ m lt. rw (zeros-after n (cares n b) care-row m lt, zeros-after n (values n b) value-row m lt))
-      ∙ all-true n (limit - n)
-
-  same-strings : strings l care value n ≡ written-entries l n b
-  unfolding strings with-zeros written-entries
-  same-strings = ap (map (string l)) (pairs-front (cares n b) (values n b) _ _ n care-row value-row)
-
-  pub decoded : all-clean l n care value ≡ true → Holds l care value n (written-entries l n b)
-  decoded h =
-      rw (← same-strings)
-      (checked-holds l care value n (zeros-length n (cares n b) care-row few) (zeros-length n (values n b) value-row few)
-      few h past)
+  -- the words of clean entries hold them
+  pub words-hold : (l : ℕ) (row : List ℕ) → l ≤ 32 → n ≤ limit → length row ≡ limit
+      → ((i : ℕ) → i < n → getD row i 0 ≡ word-of (written-at i)) → all-clean l n (cares n b) (values n b) ≡ true
+      → Holds l row n (written-entries l n b)
+  unfolding all-clean written-entries
+  words-hold l row short few room at good =
+      let cs = length-numbers n (drop 4 b) in
+      let vs = length-numbers n (drop (4 + 2 * n) b) in
+      let count = strings-count l (cares n b) (values n b) n cs vs in
+      record {
+        here = λ i lt.
+            let told = all-at (λ k. clean l (written-at k)) 0 n good i lt in
+            let e = clean-is l (written-at i) (subst (λ (k : ℕ). clean l (written-at k) ≡ true) (zero-add i) told) in
+            at i lt ∙ ap word-of e ∙ word-of-entry (string l (written-at i))
+            ∙ ap word (sym (strings-at l (cares n b) (values n b) n i cs vs lt));
+        room = room;
+        count = count;
+        good = record { wide = entries-wide l n b; few = omega (arith, few, count) };
+        short = short;
+      }

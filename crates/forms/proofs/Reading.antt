@@ -41,11 +41,9 @@ unfolding Wide
 strings-wide l [] = tt
 strings-wide l (w ∷ ws) = (string-length l w, strings-wide l ws)
 
-entries-wide : (b : List ℕ) → Wide (first-size b) (entries-in b)
+pub entries-wide : (l n : ℕ) (b : List ℕ) → Wide l (written-entries l n b)
 unfolding written-entries strings
-entries-wide b =
-    let n = second-size b in
-    strings-wide (first-size b) (take n (pairs (cares n b) (values n b)))
+entries-wide l n b = strings-wide l (take n (pairs (cares n b) (values n b)))
 
 entries-few : {x : Extent} {b : List ℕ} → Passed x b → length (entries-in b) ≤ limit
 unfolding written-entries strings
@@ -76,7 +74,8 @@ read-grown : (x : Extent) (b : List ℕ) (t : Table) → read-table x b ≡ acce
 read-grown x b t e =
     let p = reads-passed x b (accepts t) refl e in
     let g = entries-grow (p .0) in
-    let made = given-at (from-empty (first-size b) (entries-in b) (entries-wide b)) (g .0) (g .1) in
+    let wide = entries-wide (first-size b) (second-size b) b in
+    let made = given-at (from-empty (first-size b) (entries-in b) wide) (g .0) (g .1) in
     record {
       list = g .0;
       width = p .0 .width;

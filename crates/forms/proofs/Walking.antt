@@ -26,12 +26,16 @@ row-at (suc n) (suc k) b lt =
     let e : 2 + 2 * k ≡ 2 * suc k = omega arith in
     row-at n k (drop 2 b) (omega arith) ∙ number-drop b 2 (2 * k) ∙ ap (number-at b) e
 
+-- the same in a row that stands from an index on
+pub row-number : (n at k : ℕ) (b : List ℕ) → k < n → getD (numbers n (drop at b)) k 0 ≡ number-at b (at + 2 * k)
+row-number n at k b lt = row-at n k (drop at b) lt ∙ number-drop b at (2 * k)
+
 row-from : (n at k v : ℕ) (b : List ℕ) → k < n → v ≡ number-at b (at + 2 * k)
     → drop k (numbers n (drop at b)) ≡ v ∷ drop (k + 1) (numbers n (drop at b))
 row-from n at k v b lt e =
     drop-cons (numbers n (drop at b)) k 0 (omega (arith, length-numbers n (drop at b)))
     ∙ ap₂ {C = List ℕ} (λ x r. x ∷ r)
-    (row-at n k (drop at b) lt ∙ number-drop b at (2 * k) ∙ sym e)
+    (row-number n at k b lt ∙ sym e)
     (ap (λ (j : ℕ). drop j (numbers n (drop at b))) (sym (add-one k)))
 
 -- the tokens of one equation, in the array that was filled

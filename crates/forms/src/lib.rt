@@ -4,13 +4,16 @@ use tables::Answered;
 use tables::Refusal;
 use tables::Table;
 use terms::Checked;
+use words::Entry;
 ghost use mathlib.Core.Path.{_≡_};
 ghost use mathlib.Core.Bool.{true};
 ghost use Prim.Native.Nat.{_+_, _*_, _≤_};
 ghost use lib.ListN.{length};
-ghost use Rattle.tables.specs.Values.{good-width};
+ghost use Rattle.tables.specs.Values.{good-width, all-clean};
+ghost use Rattle.lists.specs.Lists.{Holds};
 ghost use Rattle.codec.specs.Numbers.{sum};
-ghost use Rattle.forms.specs.Tables.{fits, table-length, read-entries, read-table, write-answer, table-form, written};
+ghost use Rattle.forms.specs.Tables.{fits, table-length, cares, values, written-entries, read-entries, read-table};
+ghost use Rattle.forms.specs.Tables.{write-answer, table-form, written};
 ghost use Rattle.forms.specs.Equations.{equations-length, counts, equations-of, check-each, check-equations};
 
 // Where a form ends: it is all the bytes, or more may follow it.
@@ -29,20 +32,39 @@ fn fits(extent: Extent, size: usize, room: usize) -> bool
     }
 }
 
+// Reads the n written entries as words. Is each clean: no bit above l, no value without care?
+fn read_words(l: u32, n: usize, b: &[u8], row: &mut [u64; 256]) -> bool
+    requires { ⌜ (l ≤ 32) × (n ≤ 256) × (table-length n ≤ length (now b)) ⌝ }
+    ensures clean { λ r. ⌜ r ≡ all-clean l n (cares n (now (b .entry))) (values n (now (b .entry))) ⌝ }
+    ensures made { λ r. ⌜ (r ≡ true → Holds l (now (row .exit)) n (written-entries l n (now (b .entry)))) ⌝ }
+{
+    // As a slice its length is known.
+    let whole: &[u64] = &*row;
+    let full = words::full(l);
+    let mut good = true;
+    let mut i = 0;
+    while i < n {
+        let c = codec::number_at(b, 4 + 2 * i) as u32;
+        let v = codec::number_at(b, 4 + 2 * n + 2 * i) as u32;
+        good = good & ((c <= full) & ((v & c) == v));
+        row[i] = words::word_of(Entry { care: c, value: v });
+        i += 1;
+    }
+    good
+}
+
 // The table of n written entries: 4 by entry, then each is grown, in order.
 fn read_entries(l: u32, n: usize, b: &[u8]) -> Answered
     requires { ⌜ (good-width l ≡ true) × (n ≤ 256) × (table-length n ≤ length (now b)) ⌝ }
     ensures { λ r. ⌜ r ≡ read-entries l n (now (b .entry)) ⌝ }
 {
-    let ycare = codec::words_at(b, 4, n);
-    let yvalue = codec::words_at(b, 4 + 2 * n, n);
-    if !tables::all_clean(&ycare, &yvalue, n, l) {
+    let mut row = [0u64; 256];
+    if !read_words(l, n, b, &mut row) {
         return tables::refused(Refusal::Stray);
     }
-    let mut care = [0u32; 256];
-    let mut value = [0u32; 256];
-    let g = growing::grow_each(&mut care, &mut value, 0, l, &ycare, &yvalue, n);
-    lists::made_or_full(l, Table::zero(), g, &care, &value)
+    let mut list = [0u64; 256];
+    let g = lists::growth::grow_each(&mut list, 0, l, &row, n);
+    lists::values::made_or_full(l, Table::zero(), g, &list)
 }
 
 // Reads a table: sizes present (1), 2, 3, length (1), 4 by entry.
@@ -78,12 +100,10 @@ pub fn write_table(t: Table, out: &mut [u8]) -> Answer
             if out.len() < 4 + 4 * n {
                 return Answer::Refused(Refusal::Narrow);
             }
-            let care = t.care;
-            let value = t.value;
             codec::put_number(out, 0, t.l);
             codec::put_number(out, 2, n as u32);
-            codec::put_words(out, 4, &care, n);
-            codec::put_words(out, 4 + 2 * n, &value, n);
+            codec::put_words(out, 4, &t.care, n);
+            codec::put_words(out, 4 + 2 * n, &t.value, n);
             Answer::Accepted
         }
     }

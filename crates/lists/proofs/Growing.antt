@@ -1,95 +1,73 @@
--- Growing a list in its own arrays. Assumes nothing.
-use mathlib.Core.Path.{_≡_, refl, sym, ap, _∙_}
-use mathlib.Core.Bool.{Bool, true, false, _||_, cond}
-use mathlib.Core.List.{List, [], _∷_, _++_, map, append-assoc}
+-- The cases of the growth rule, and a string without `*`, which subsumes no entry that does not subsume it. Assumes nothing.
+use mathlib.Core.Path.{_≡_, refl, ap}
+use mathlib.Core.Bool.{Bool, true, false, cond}
+use mathlib.Core.List.{[], _∷_, _++_}
 use mathlib.Core.Option.{some, none}
-use Prim.Native.Nat.{ℕ, suc, _+_, _-_, _≤_, _<_}
-use native.Mathlib.Omega.{arith}
+use Prim.Native.Nat.{_≤_, _<_}
 use borrow.Author.Tests.{lt-ltb, le-ltb}
-use lib.ListN.{length, set, replicate, length-append, length-map}
-use lib.Seq.{set-at}
-use Rattle.model.specs.Strings.{Trits, subsumes, all-zero}
+use lib.Dec.{T}
+use lib.ListN.{length}
+use Rattle.model.specs.Strings.{t0, t1, t*, Trits, subsumes, all-zero}
 use Rattle.model.specs.Growth.{Entries, limit, subsumed, remove, append, grow}
-use Rattle.model.specs.Tables.{Wide}
-use Rattle.model.proofs.Overflow.{remove-length}
-use Rattle.model.proofs.Shape.{wide-append}
-use Rattle.words.specs.declared.Entry.{Entry}
-use Rattle.words.specs.Words.{word}
-use Rattle.tables.specs.Lists.{zero-entry, padded, list-words, Holds, any}
-use Rattle.tables.proofs.Arrays.{arrays-set, arrays-as}
-use Rattle.lists.proofs.Packing.{map-append}
+use Rattle.model.proofs.Tests.{or-left, or-right}
+use Rattle.words.specs.Words.{starless}
 
--- ---- The four ways of grow
+-- ---- The cases
 
 module _ (τ : Entries) (y : Trits) where
+  -- there is room for one entry more
+  pub append-room : length τ < limit → append τ y ≡ some (τ ++ (y ∷ []))
+  unfolding append
+  append-room h = rw (lt-ltb (length τ) limit h)
+
+  -- there is none
+  pub append-full : limit ≤ length τ → append τ y ≡ none
+  unfolding append
+  append-full h = rw (le-ltb (length τ) limit h)
+
+  -- an all-zero string changes nothing
   pub grow-zero : all-zero y ≡ true → grow τ y ≡ some τ
   unfolding grow
   grow-zero z = rw z
 
   module _ (z : all-zero y ≡ false) where
+    -- nor does one that an entry subsumes
     pub grow-subsumed : subsumed τ y ≡ true → grow τ y ≡ some τ
     unfolding grow
     grow-subsumed t = rw (z, t)
 
-    module _ (t : subsumed τ y ≡ false) where
-      pub grow-appended : length (remove y τ) < limit → grow τ y ≡ some (remove y τ ++ (y ∷ []))
-      unfolding grow append
-      grow-appended h = rw (z, t, lt-ltb (length (remove y τ)) limit h)
+    -- any other is appended to what it does not remove
+    pub grow-new : subsumed τ y ≡ false → grow τ y ≡ append (remove y τ) y
+    unfolding grow
+    grow-new t = rw (z, t)
 
-      pub grow-full : limit ≤ length (remove y τ) → grow τ y ≡ none
-      unfolding grow append
-      grow-full h = rw (z, t, le-ltb (length (remove y τ)) limit h)
+-- ---- A string without `*`
 
--- ---- Where nothing is removed
+-- what it subsumes subsumes it
+starless-back : (s r : Trits) → T (starless s) → T (subsumes s r) → T (subsumes r s)
+unfolding starless subsumes
+starless-back [] [] f h = tt
+starless-back [] (u ∷ r) f h = absurd h
+starless-back (t ∷ s) [] f h = absurd h
+starless-back (t0 ∷ s) (t0 ∷ r) f h = starless-back s r f h
+starless-back (t0 ∷ s) (t1 ∷ r) f h = absurd h
+starless-back (t0 ∷ s) (t* ∷ r) f h = absurd h
+starless-back (t1 ∷ s) (t0 ∷ r) f h = absurd h
+starless-back (t1 ∷ s) (t1 ∷ r) f h = starless-back s r f h
+starless-back (t1 ∷ s) (t* ∷ r) f h = absurd h
+starless-back (t* ∷ s) (u ∷ r) f h = absurd f
 
-pub remove-none : (y : Trits) (τ : Entries) → any (subsumes y) τ ≡ false → remove y τ ≡ τ
-unfolding remove any
-remove-none y [] e = refl
-remove-none y (s ∷ τ) e = go (subsumes y s) e (remove-none y τ)
+-- it removes no entry where none subsumes it
+starless-keeps : (s : Trits) (τ : Entries) → T (starless s) → ¬ (T (subsumed τ s)) → remove s τ ≡ τ
+unfolding subsumed remove
+starless-keeps s [] f n = refl
+starless-keeps s (r ∷ τ) f n =
+    step (subsumes s r) refl (starless-keeps s τ f (λ h. n (or-right (subsumes r s) (subsumed τ s) h)))
   where
-    go : (b : Bool) → (b || any (subsumes y) τ) ≡ false → (any (subsumes y) τ ≡ false → remove y τ ≡ τ)
-        → cond b (remove y τ) (s ∷ remove y τ) ≡ s ∷ τ
-    go true e f = absurd (let z : _≡_ {A = ℕ} 0 1 = cc in omega arith)
-    go false e f = ap (λ (r : Entries). s ∷ r) (f e)
+    step : (b : Bool) → subsumes s r ≡ b → remove s τ ≡ τ → cond b (remove s τ) (r ∷ remove s τ) ≡ r ∷ τ
+    step true q e = absurd (n (or-left (subsumes r s) (subsumed τ s) (starless-back s r f (rw q tt))))
+    step false q e = ap (λ (ρ : Entries). r ∷ ρ) e
 
-pub remove-all : (y : Trits) (τ : Entries) → length τ ≤ length (remove y τ) → remove y τ ≡ τ
-unfolding remove
-remove-all y [] h = refl
-remove-all y (s ∷ τ) h = go (subsumes y s) h (remove-all y τ)
-  where
-    go : (b : Bool) → suc (length τ) ≤ length (cond b (remove y τ) (s ∷ remove y τ))
-        → (length τ ≤ length (remove y τ) → remove y τ ≡ τ)
-        → cond b (remove y τ) (s ∷ remove y τ) ≡ s ∷ τ
-    go true h f = absurd (omega (arith, remove-length y τ))
-    go false h f = ap (λ (r : Entries). s ∷ r) (f (omega arith))
-
--- ---- The arrays
-
-module _ {l : ℕ} {care value : List ℕ} {n : ℕ} {τ : Entries} (h : Holds l care value n τ) where
-  pub holds-append : (s : Trits) (y : Entry) → y ≡ word s → length s ≡ l → n < limit
-      → Holds l (set care n (y .care)) (set value n (y .value)) (n + 1) (τ ++ (s ∷ []))
-  unfolding list-words padded Wide
-  holds-append s y is e lt =
-      let c = h .count in
-      let room : limit - length (map word τ) ≡ suc (limit - (length τ + 1)) = rw (length-map τ word) (omega arith) in
-      let long : length (map word (τ ++ (s ∷ []))) ≡ length τ + 1 = length-map (τ ++ (s ∷ [])) word ∙ length-append τ (s ∷ []) in
-      record {
-        arrays =
-            arrays-as
-            (ap (λ (m : ℕ). set (map word τ ++ replicate m zero-entry) n (word s)) room
-            ∙ set-at (map word τ) zero-entry _ (word s) n (length-map τ word ∙ sym c)
-            ∙ sym (append-assoc (map word τ) (word s ∷ []) _)
-            ∙ ap (λ (r : List Entry). r ++ replicate (limit - (length τ + 1)) zero-entry) (sym (map-append τ (s ∷ [])))
-            ∙ ap (λ (m : ℕ). map word (τ ++ (s ∷ [])) ++ replicate (limit - m) zero-entry) (sym long))
-            (rw is (arrays-set (h .arrays) n (word s)));
-        count = omega (arith, length-append τ (s ∷ []));
-        good = record {
-          wide = wide-append l τ (s ∷ []) (h .good .wide) (e, tt);
-          few = omega (arith, length-append τ (s ∷ []));
-        };
-      }
-
-  -- arrays that hold the same list are the same
-  pub holds-same : {k : ℕ} {care′ value′ : List ℕ} {m : ℕ} {ρ : Entries} → Holds k care′ value′ m ρ → ρ ≡ τ
-      → (care′ ≡ care) × (value′ ≡ value)
-  holds-same g e = rw (g .arrays .cares, g .arrays .values, h .arrays .cares, h .arrays .values, e) (refl, refl)
+-- the same, of tests
+pub starless-removes : (s : Trits) (τ : Entries) → starless s ≡ true → subsumed τ s ≡ false → remove s τ ≡ τ
+starless-removes s τ f e = starless-keeps s τ (rw f tt) (λ h. rw e at h)

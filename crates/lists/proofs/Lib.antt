@@ -1,5 +1,10 @@
+pub mod Holding
+pub mod Toward
+pub mod Steps
 pub mod Packing
 pub mod Growing
-pub mod Toward
+pub mod Idling
 pub mod Answering
-pub mod Steps
+pub mod Near
+pub mod Passes
+pub mod Converting

@@ -1,33 +1,76 @@
--- The compaction of a list: which entries are kept, and the compaction in its own two arrays. Assumes nothing.
-use mathlib.Core.Path.{_≡_, refl, sym, ap, _∙_}
-use mathlib.Core.Bool.{true, false, cond}
-use mathlib.Core.List.{List, [], _∷_, _++_, map, append-assoc, append-nil}
+-- Tests of a list's words are tests of its strings; and the compaction: the entries that a string does not subsume, moved
+-- together in the list's own array. Assumes nothing.
+use mathlib.Core.Path.{_≡_, refl, sym, ap, ap₂, _∙_}
+use mathlib.Core.Bool.{Bool, true, false, not, _||_, cond}
+use mathlib.Core.List.{List, [], _∷_, _++_, append-nil}
 use Prim.Native.Nat.{ℕ, zero, suc, _+_, _-_, _≤_, _<_}
+use native.Mathlib.Nat.{zero-add, add-zero}
 use native.Mathlib.Numerals.{add-one}
 use native.Mathlib.Omega.{arith}
-use lib.ListN.{length, getD, set, take, drop, replicate, length-append, length-replicate, length-map}
-use lib.ListN.{replicate-append-replicate}
-use lib.Seq.{length-take-le, drop-cons, drop-length, set-at, append-snoc, drop-append-seam, getD-at}
+use borrow.Author.Tests.{not-true, ltb-true, ltb-false}
+use lib.Dec.{ltb}
+use lib.ListN.{length, getD, set, take, drop, length-append, length-set}
+use lib.Seq.{length-take-le, drop-cons, drop-length, append-snoc, getD-take, getD-set-other}
 use Rattle.model.specs.Strings.{Trits, subsumes}
-use Rattle.model.specs.Growth.{Entries, limit, remove}
+use Rattle.model.specs.Growth.{Entries, limit, subsumed, remove}
 use Rattle.model.specs.Tables.{Good}
 use Rattle.model.proofs.Shape.{wide-remove}
-use Rattle.words.specs.declared.Entry.{Entry}
-use Rattle.words.specs.Words.{word}
-use Rattle.tables.specs.Lists.{zero-entry, padded, list-words, Arrays, Holds}
-use Rattle.tables.specs.Values.{entry-at}
-use Rattle.tables.proofs.Arrays.{arrays-at, arrays-set, arrays-as, list-words-at}
+use Rattle.words.specs.Words.{word, subsumes-word}
+use Rattle.tables.specs.Lists.{any, some-from}
+use Rattle.tables.specs.Values.{all-from}
+use Rattle.tables.proofs.Arrays.{subsumed-any}
+use Rattle.tables.proofs.Checking.{all-at}
+use Rattle.lists.specs.Lists.{Holds, Free}
+use Rattle.words.proofs.Words.{word-subsumes}
+use Rattle.lists.proofs.Holding.{holds-length, run-append, run-stays}
 
-replicate-snoc : (j : ℕ) (r : List Entry) → replicate j zero-entry ++ (zero-entry ∷ r) ≡ replicate (suc j) zero-entry ++ r
-replicate-snoc zero r = refl
-replicate-snoc (suc j) r = ap (λ (l : List Entry). zero-entry ∷ l) (replicate-snoc j r)
+-- ---- Tests
 
-pub map-append : (τ ρ : Entries) → map word (τ ++ ρ) ≡ map word τ ++ map word ρ
-map-append [] ρ = refl
-map-append (s ∷ τ) ρ = ap (λ (r : List Entry). word s ∷ r) (map-append τ ρ)
+-- a test of the indexes that is a test of the strings there
+some-any : (p : ℕ → Bool) (q : Trits → Bool) (τ : Entries) (i : ℕ) → ((m : ℕ) → m < length τ → p (i + m) ≡ q (getD τ m []))
+    → some-from i (length τ) p ≡ any q τ
+unfolding some-from any
+some-any p q [] i f = refl
+some-any p q (s ∷ τ) i f =
+    ap₂ _||_
+    (let h : p (i + 0) ≡ q s = f 0 (omega arith) in rw (add-zero i) at h)
+    (some-any p q τ (suc i) (λ m lt. let z : suc i + m ≡ i + suc m = omega arith in rw z (f (suc m) (omega arith))))
+
+module _ {l : ℕ} {list : List ℕ} {n : ℕ} {τ : Entries} (h : Holds l list n τ) (s : Trits) (e : length s ≡ l)
+    {y : ℕ} (is : y ≡ word s) where
+  -- the string of y and the one at an index
+  pub holds-under : (i : ℕ) → i < n → subsumes-word y (getD list i 0) ≡ subsumes s (getD τ i [])
+  holds-under i lt =
+      rw (is, h .here i lt) (word-subsumes s (getD τ i []) (e ∙ sym (holds-length h i lt)) (rw e (h .short)))
+
+  -- the one at an index and the string of y
+  pub holds-over : (i : ℕ) → i < n → subsumes-word (getD list i 0) y ≡ subsumes (getD τ i []) s
+  holds-over i lt =
+      let long = holds-length h i lt in
+      rw (is, h .here i lt) (word-subsumes (getD τ i []) s (long ∙ sym e) (rw long (h .short)))
+
+  -- some word subsumes y where some entry subsumes the string
+  pub holds-subsumed : some-from 0 n (λ i. subsumes-word (getD list i 0) y) ≡ subsumed τ s
+  holds-subsumed =
+      rw (h .count)
+      (some-any _ (λ r. subsumes r s) τ 0 (λ m lt. rw (zero-add m) (holds-over m (omega (arith, h .count))))
+      ∙ subsumed-any τ s)
+
+-- y subsumes none of the entries before k + n where it subsumes none before k and none of the n from there on
+pub free-more : (list : List ℕ) (y k n : ℕ) → Free list y k
+    → all-from k n (λ i. not (subsumes-word y (getD list i 0))) ≡ true → Free list y (k + n)
+free-more list y k n f a i lt = go (ltb i k) refl
+  where
+    go : (b : Bool) → ltb i k ≡ b → subsumes-word y (getD list i 0) ≡ false
+    go true e = f i (ltb-true i k e)
+    go false e =
+        let le = ltb-false i k e in
+        let z : k + (i - k) ≡ i = omega arith in
+        not-true _ (rw z at (all-at (λ m. not (subsumes-word y (getD list m 0))) k n a (i - k) (omega arith)))
 
 -- ---- Which entries are kept
 
+-- what is left from index i on
 remove-cons : (y : Trits) (τ : Entries) (i : ℕ) → i < length τ
     → remove y (drop i τ) ≡
     cond (subsumes y (getD τ i [])) (remove y (drop (suc i) τ)) (getD τ i [] ∷ remove y (drop (suc i) τ))
@@ -41,7 +84,7 @@ pub record Kept (y : Trits) (τ front : Entries) (k i : ℕ) : Type 0 where
   pub below : k ≤ i
 
 -- where y subsumes none of the first i
-pub kept-start : (y : Trits) (τ : Entries) (i : ℕ) → i ≤ length τ → ((m : ℕ) → m < i → subsumes y (getD τ m []) ≡ false)
+kept-start : (y : Trits) (τ : Entries) (i : ℕ) → i ≤ length τ → ((m : ℕ) → m < i → subsumes y (getD τ m []) ≡ false)
     → Kept y τ (take i τ) i i
 unfolding remove
 kept-start y τ i h f = record { count = length-take-le i τ h; rest = same τ i h f; below = omega arith }
@@ -56,14 +99,16 @@ kept-start y τ i h f = record { count = length-take-le i τ h; rest = same τ i
 
 module _ {y : Trits} {τ front : Entries} {k i : ℕ} (p : Kept y τ front k i) where
   module _ (lt : i < length τ) where
-    pub kept-dropped : subsumes y (getD τ i []) ≡ true → Kept y τ front k (i + 1)
+    -- the entry at i is not kept
+    kept-dropped : subsumes y (getD τ i []) ≡ true → Kept y τ front k (i + 1)
     kept-dropped t = record {
       count = p .count;
       rest = rw add-one (ap (λ (r : Entries). front ++ r) (sym (remove-cons y τ i lt ∙ rw t)) ∙ p .rest);
       below = omega (arith, p .below);
     }
 
-    pub kept-added : subsumes y (getD τ i []) ≡ false → Kept y τ (front ++ (getD τ i [] ∷ [])) (k + 1) (i + 1)
+    -- it is kept
+    kept-added : subsumes y (getD τ i []) ≡ false → Kept y τ (front ++ (getD τ i [] ∷ [])) (k + 1) (i + 1)
     kept-added t = record {
       count = length-append front (getD τ i [] ∷ []) ∙ ap (λ (m : ℕ). m + 1) (p .count);
       rest =
@@ -75,7 +120,8 @@ module _ {y : Trits} {τ front : Entries} {k i : ℕ} (p : Kept y τ front k i) 
     }
 
   module _ (end : i ≡ length τ) where
-    pub kept-all : front ≡ remove y τ
+    -- at the end the front is what is left
+    kept-all : front ≡ remove y τ
     unfolding remove
     kept-all =
         sym (append-nil front)
@@ -83,119 +129,79 @@ module _ {y : Trits} {τ front : Entries} {k i : ℕ} (p : Kept y τ front k i) 
         ∙ ap (λ (m : ℕ). front ++ remove y (drop m τ)) (sym end)
         ∙ p .rest
 
-    pub kept-count : k ≡ length (remove y τ)
+    -- and k is its count
+    kept-count : k ≡ length (remove y τ)
     kept-count = sym (p .count) ∙ ap length kept-all
 
-    pub kept-good : {l : ℕ} → Good l τ → Good l (remove y τ)
+    -- which is a good list
+    kept-good : {l : ℕ} → Good l τ → Good l (remove y τ)
     kept-good {l} g =
         record { wide = wide-remove l y τ (g .wide); few = omega (arith, p .below, kept-count, g .few) }
 
--- ---- In two arrays
+-- ---- The compaction
 
--- The k kept are at the front; zeros follow up to i, and what is to come is as it was.
-pub record Packing (y : Trits) (τ : Entries) (care value : List ℕ) (k i : ℕ) : Type 0 where
+-- The words of the k kept are at the front, and those from i on are as they were.
+pub record Packing (y : Trits) (τ : Entries) (list : List ℕ) (k i : ℕ) : Type 0 where
   pub front : Entries
   pub kept : Kept y τ front k i
-  pub arrays : Arrays care value (map word front ++ (replicate (i - k) zero-entry ++ drop i (list-words τ)))
+  pub done : (m : ℕ) → m < k → getD list m 0 ≡ word (getD front m [])
+  pub ahead : (m : ℕ) → i ≤ m → m < length τ → getD list m 0 ≡ word (getD τ m [])
+  pub room : length list ≡ limit
 
-pub packing-start : (y : Trits) (τ : Entries) {care value : List ℕ} → Arrays care value (list-words τ)
-    → Packing y τ care value 0 0
-packing-start y τ h = record {
-  front = [];
-  kept = kept-start y τ 0 (omega arith) (λ m lt. absurd (omega arith));
-  arrays = h;
-}
-
-module _ (y : Trits) (τ : Entries) {care value : List ℕ} (k i : ℕ) (p : Packing y τ care value k i) (lt : i < length τ) where
-  e : Trits
-  e = getD τ i []
-
-  later : List Entry
-  later = drop (suc i) (list-words τ)
-
-  drop-words : drop i (list-words τ) ≡ word e ∷ later
-  unfolding e later list-words padded
-  drop-words =
-      drop-cons (list-words τ) i zero-entry (rw (length-append, length-map τ word) (omega arith))
-      ∙ ap (λ (x : Entry). x ∷ drop (suc i) (list-words τ)) (list-words-at τ i lt)
-
-  -- what stands before index i
-  before : List Entry
-  before = map word (p .front) ++ replicate (i - k) zero-entry
-
-  at-i : length before ≡ i
-  unfolding before
-  at-i = simp (length-append, length-replicate, length-map) (omega (arith, p .kept .count, p .kept .below))
-
-  seen : Arrays care value (before ++ (word e ∷ later))
-  unfolding before
-  seen =
-      arrays-as
-      (ap (λ (r : List Entry). map word (p .front) ++ (replicate (i - k) zero-entry ++ r)) drop-words ∙ sym
-      (append-assoc (map word (p .front)) _ _))
-      (p .arrays)
-
-  pub loaded : entry-at care value i ≡ word (getD τ i [])
-  unfolding e
-  loaded = arrays-at seen i ∙ getD-at before (word e) later zero-entry i at-i
-
-  cleared : Arrays (set care i 0) (set value i 0) (map word (p .front) ++ (replicate (suc (i - k)) zero-entry ++ later))
-  unfolding before
-  cleared =
-      arrays-as
-      (set-at before (word e) later zero-entry i at-i
-      ∙ append-assoc (map word (p .front)) _ _
-      ∙ ap (λ (r : List Entry). map word (p .front) ++ r) (replicate-snoc (i - k) later))
-      (arrays-set seen i zero-entry)
-
-  stored : Arrays (set (set care i 0) k (getD care i 0)) (set (set value i 0) k (getD value i 0))
-      (map word (p .front) ++ (word e ∷ (replicate (i - k) zero-entry ++ later)))
-  unfolding e
-  stored =
-      arrays-as
-      (rw loaded (set-at (map word (p .front)) zero-entry _ (word e) k (length-map (p .front) word ∙ p .kept .count)))
-      (arrays-set cleared k (entry-at care value i))
-
-  pub packing-dropped : subsumes y (getD τ i []) ≡ true → Packing y τ (set care i 0) (set value i 0) k (i + 1)
-  unfolding later e
-  packing-dropped t =
-      let m : suc i - k ≡ suc (i - k) = omega (arith, p .kept .below) in
-      record { front = p .front; kept = kept-dropped (p .kept) lt t; arrays = rw (add-one, m) cleared }
-
-  pub packing-kept : subsumes y (getD τ i []) ≡ false
-      → Packing y τ (set (set care i 0) k (getD care i 0)) (set (set value i 0) k (getD value i 0)) (k + 1) (i + 1)
-  unfolding later e
-  packing-kept t =
-      let m : i + 1 - (k + 1) ≡ i - k = omega arith in
-      record {
-        front = p .front ++ (e ∷ []);
-        kept = kept-added (p .kept) lt t;
-        arrays =
-            rw (m, add-one)
-            (arrays-as
-            (sym (ap (λ (r : List Entry). r ++ (replicate (i - k) zero-entry ++ later)) (map-append (p .front) (e ∷ []))
-            ∙ append-snoc (map word (p .front)) (word e) _))
-            stored);
-      }
-
-module _ (y : Trits) (τ : Entries) {care value : List ℕ} (k i : ℕ) (p : Packing y τ care value k i) (end : i ≡ length τ) where
-  left : length τ ≤ limit
-      → map word (p .front) ++ (replicate (i - k) zero-entry ++ drop i (list-words τ)) ≡ list-words (remove y τ)
-  unfolding list-words padded
-  left few =
-      let total : i - k + (limit - length (map word τ)) ≡ limit - length (map word (remove y τ)) =
-      rw (length-map τ word, length-map (remove y τ) word) (omega (arith, p .kept .below, kept-count (p .kept) end)) in
-      ap (λ (m : ℕ). map word (p .front) ++ (replicate (i - k) zero-entry ++ drop m (list-words τ)))
-      (end ∙ sym (length-map τ word))
-      ∙ ap (λ (r : List Entry). map word (p .front) ++ (replicate (i - k) zero-entry ++ r)) (drop-append-seam (map word τ) _)
-      ∙ ap (λ (r : List Entry). map word (p .front) ++ r)
-      (replicate-append-replicate (i - k) (limit - length (map word τ)) zero-entry)
-      ∙ ap (λ (r : Entries). map word r ++ replicate (i - k + (limit - length (map word τ))) zero-entry) (kept-all (p .kept) end)
-      ∙ ap (λ (m : ℕ). map word (remove y τ) ++ replicate m zero-entry) total
-
-  pub packing-end : {l : ℕ} → Good l τ → Holds l care value k (remove y τ)
-  packing-end g = record {
-    arrays = arrays-as (left (g .few)) (p .arrays);
-    count = kept-count (p .kept) end;
-    good = kept-good (p .kept) end g;
+module _ {l : ℕ} {list : List ℕ} {n : ℕ} {τ : Entries} (h : Holds l list n τ) (s : Trits) (e : length s ≡ l)
+    {y : ℕ} (is : y ≡ word s) where
+  -- y subsumes none of the first j entries, so they are kept where they are
+  pub packing-start : (j : ℕ) → j ≤ n → Free list y j → Packing s τ list j j
+  packing-start j le f = record {
+    front = take j τ;
+    kept = kept-start s τ j (omega (arith, h .count)) (λ m lt. sym (holds-under h s e is m (omega arith)) ∙ f m lt);
+    done = λ m lt. h .here m (omega arith) ∙ ap word (sym (getD-take j τ m [] lt));
+    ahead = λ m a lt. h .here m (omega (arith, h .count));
+    room = h .room;
   }
+
+  -- the test of the word at index i
+  pub packing-test : {now : List ℕ} {k i : ℕ} → Packing s τ now k i → i < length τ
+      → subsumes-word y (getD now i 0) ≡ subsumes s (getD τ i [])
+  packing-test {i = i} p lt =
+      ap (subsumes-word y) (p .ahead i (omega arith) lt ∙ sym (h .here i (omega (arith, h .count))))
+      ∙ holds-under h s e is i (omega (arith, h .count))
+
+module _ {y : Trits} {τ : Entries} {list : List ℕ} {k i : ℕ} (p : Packing y τ list k i) (lt : i < length τ) where
+  -- what is ahead stays where one word is stored at k
+  ahead : (x : ℕ) (m : ℕ) → i + 1 ≤ m → m < length τ → getD (set list k x) m 0 ≡ word (getD τ m [])
+  ahead x m a b = run-stays list k x m (omega (arith, p .kept .below)) ∙ p .ahead m (omega arith) b
+
+  -- the entry at i is not kept, whatever is stored at k
+  pub packing-dropped : (x : ℕ) → subsumes y (getD τ i []) ≡ true → Packing y τ (set list k x) k (i + 1)
+  packing-dropped x t = record {
+    front = p .front;
+    kept = kept-dropped (p .kept) lt t;
+    done = λ m b. getD-set-other list k m x 0 (λ e. absurd (omega (arith, e))) ∙ p .done m b;
+    ahead = ahead x;
+    room = length-set list k x ∙ p .room;
+  }
+
+  -- it is kept, and stored at k
+  pub packing-kept : length τ ≤ limit → subsumes y (getD τ i []) ≡ false
+      → Packing y τ (set list k (getD list i 0)) (k + 1) (i + 1)
+  packing-kept few t = record {
+    front = p .front ++ (getD τ i [] ∷ []);
+    kept = kept-added (p .kept) lt t;
+    done =
+        run-append list (p .front) k (p .done) (omega (arith, p .room, p .kept .below)) (sym (p .kept .count)) (getD τ i [])
+        (p .ahead i (omega arith) lt);
+    ahead = ahead (getD list i 0);
+    room = length-set list k (getD list i 0) ∙ p .room;
+  }
+
+-- at the end the array holds what is left
+pub packing-end : {l n : ℕ} {y : Trits} {τ : Entries} {list₀ list : List ℕ} {k i : ℕ} → Holds l list₀ n τ
+    → Packing y τ list k i → i ≡ length τ → Holds l list k (remove y τ)
+packing-end {k = k} h p end = record {
+  here = λ m lt. p .done m lt ∙ ap (λ (r : Entries). word (getD r m [])) (kept-all (p .kept) end);
+  room = p .room;
+  count = kept-count (p .kept) end;
+  good = kept-good (p .kept) end (h .good);
+  short = h .short;
+}

@@ -6,9 +6,8 @@ use Prim.Native.Nat.{ℕ}
 use Rattle.model.specs.Growth.{_>>=_, Entries}
 use Rattle.lists.specs.declared.Grown.{Grown}
 use Rattle.lists.specs.declared.Grown.the-variants.{Count, Full}
-use Rattle.tables.specs.Lists.{Holds}
-use Rattle.lists.specs.Lists.{Makes, stops}
-use Rattle.lists.proofs.Toward.{makes-count, makes-full}
+use Rattle.lists.specs.Lists.{Holds, Makes, stops}
+use Rattle.lists.proofs.Holding.{makes-count, makes-full}
 
 module _ {A B : Type 0} where
   -- going on alike
@@ -25,13 +24,13 @@ module _ {A B : Type 0} where
   then-then none f g = refl
   then-then (some a) f g = refl
 
-module _ {l : ℕ} {care value : List ℕ} {g : Grown} {o : Option Entries} (told : Makes l care value g o)
-    (k : Entries → Option Entries) {l′ : ℕ} {care′ value′ : List ℕ} where
-  pub makes-then : {n : ℕ} {r : Grown} → g ≡ Count n → ((τ : Entries) → Holds l care value n τ → Makes l′ care′ value′ r (k τ))
-      → Makes l′ care′ value′ r (o >>= k)
+module _ {l : ℕ} {list : List ℕ} {g : Grown} {o : Option Entries} (told : Makes l list g o)
+    (k : Entries → Option Entries) {l′ : ℕ} {list′ : List ℕ} where
+  pub makes-then : {n : ℕ} {r : Grown} → g ≡ Count n → ((τ : Entries) → Holds l list n τ → Makes l′ list′ r (k τ))
+      → Makes l′ list′ r (o >>= k)
   unfolding _>>=_
   makes-then e next = let t = makes-count told e in rw (t .1) (next (t .0) (t .2))
 
-  pub stops-then : g ≡ Full → Makes l′ care′ value′ Full (o >>= k)
+  pub stops-then : g ≡ Full → Makes l′ list′ Full (o >>= k)
   unfolding _>>=_
   stops-then e = rw (makes-full told e) stops

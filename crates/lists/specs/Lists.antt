@@ -1,32 +1,61 @@
--- What a working list is grown to.
+-- Working lists: one array of 256 words and a count; what they hold, and what they are grown to.
 use mathlib.Core.Path.{_≡_}
-use mathlib.Core.List.{List}
+use mathlib.Core.Bool.{Bool, true, false, _&&_, cond}
+use mathlib.Core.List.{List, [], _∷_}
 use mathlib.Core.Option.{Option, some, none}
-use Prim.Native.Nat.{ℕ, _≤_}
-use lib.ListN.{length}
+use Prim.Native.Nat.{ℕ, _≤_, _<_, _^_}
+use lib.Dec.{ltb}
+use lib.ListN.{length, getD}
+use Rattle.model.specs.Groups.{Bits, or}
 use Rattle.model.specs.Strings.{Trits}
 use Rattle.model.specs.Growth.{Entries, limit}
-use Rattle.words.specs.declared.Entry.{Entry}
-use Rattle.words.specs.Words.{word}
-use Rattle.tables.specs.Lists.{Holds}
+use Rattle.model.specs.Tables.{Good}
+use Rattle.words.specs.Words.{word, subsumes-word, near, openings}
 use Rattle.lists.specs.declared.Grown.{Grown}
 use Rattle.lists.specs.declared.Grown.the-variants.{Count, Full}
 
--- P of any list of strings of l positions that the arrays hold, and any string whose words are y.
-abbrev pub OfString : (l : ℕ) (care value : List ℕ) (n : ℕ) → Entry → (Entries → Trits → Type 0) → Type 0
-OfString l care value n y P = (τ : Entries) (s : Trits) → Holds l care value n τ → length s ≡ l → y ≡ word s → P τ s
+-- The array and the count n hold τ, a good list of strings of l positions, which are at most 32; nothing is said of what is
+-- past the count.
+pub record Holds (l : ℕ) (list : List ℕ) (n : ℕ) (τ : Entries) : Type 0 where
+  pub here : (i : ℕ) → i < n → getD list i 0 ≡ word (getD τ i [])
+  pub room : length list ≡ limit
+  pub count : n ≡ length τ
+  pub good : Good l τ
+  pub short : l ≤ 32
+
+-- P of any list of strings of l positions that the array holds, and any string whose word is y.
+abbrev pub OfString : (l : ℕ) (list : List ℕ) (n : ℕ) → ℕ → (Entries → Trits → Type 0) → Type 0
+OfString l list n y P = (τ : Entries) (s : Trits) → Holds l list n τ → length s ≡ l → y ≡ word s → P τ s
 
 -- A count that was answered is within the limit.
 abbrev pub Within : Grown → Type 0
 Within (Count n) = n ≤ limit
 Within Full = Unit {0}
 
--- What a call makes and answers, by what it was to compute: the list and its count; or full, with nothing said of the arrays.
-pub data Makes (l : ℕ) (care value : List ℕ) : Grown → Option Entries → Type 0 where
-  makes : {n : ℕ} {τ : Entries} → Holds l care value n τ → Makes l care value (Count n) (some τ)
-  stops : Makes l care value Full none
+-- What a call makes and answers, by what it was to compute: the list and its count; or full, with nothing said of the array.
+pub data Makes (l : ℕ) (list : List ℕ) : Grown → Option Entries → Type 0 where
+  makes : {n : ℕ} {τ : Entries} → Holds l list n τ → Makes l list (Count n) (some τ)
+  stops : Makes l list Full none
 
--- What a call leaves and answers, by what it was to compute: the list and its count; or full, and the arrays as they were.
-pub data Leaves (l : ℕ) (care₀ value₀ care value : List ℕ) : Grown → Option Entries → Type 0 where
-  made : {n : ℕ} {τ : Entries} → Holds l care value n τ → Leaves l care₀ value₀ care value (Count n) (some τ)
-  refused : care ≡ care₀ → value ≡ value₀ → Leaves l care₀ value₀ care value Full none
+-- y subsumes none of the entries before index r.
+abbrev pub Free : List ℕ → ℕ → ℕ → Type 0
+Free list y r = (i : ℕ) → i < r → subsumes-word y (getD list i 0) ≡ false
+
+-- ---- What widening looks at
+
+-- The entries that lack at most one position of y, in order.
+unfoldable pub near-list : Entries → Trits → Entries
+near-list [] y = []
+near-list (e ∷ τ) y = cond (near e y) (e ∷ near-list τ y) (near-list τ y)
+
+-- The positions of y that some entry opens: those fixed positions at which y with that value flipped is subsumed by one entry.
+unfoldable pub open-set : Entries → Trits → Bits
+open-set [] y = []
+open-set (e ∷ τ) y = or (openings e y) (open-set τ y)
+
+-- ---- The words that are converted
+
+-- No word has a bit above l.
+unfoldable pub all-below : ℕ → List ℕ → Bool
+all-below l [] = true
+all-below l (w ∷ ws) = ltb w (2 ^ l) && all-below l ws

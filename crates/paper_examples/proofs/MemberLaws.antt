@@ -30,7 +30,7 @@ use Rattle.tables.specs.declared.Answered.{Answered}
 use Rattle.tables.specs.Values.{table-of, entries-of, accepts, made-or-full, GoodTable}
 use Rattle.tables.proofs.Values.{entries-of-table, table-of-good}
 use Rattle.tables.proofs.Checking.{good-passes, good-holds}
-use Rattle.conversion.specs.Conversion.{all-below}
+use Rattle.lists.specs.Lists.{all-below}
 use Rattle.sharing.specs.Calls.{after-check, convert-call, join-call}
 use Rattle.questions.specs.declared.Reply.{Reply}
 use Rattle.questions.specs.declared.Reply.the-variants.{Refused}

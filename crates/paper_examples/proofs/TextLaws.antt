@@ -1,9 +1,9 @@
 -- Strings read from text. Assumes nothing.
-use mathlib.Core.Path.{_≡_, refl, ap, _∙_}
+use mathlib.Core.Path.{_≡_, refl, sym, ap, _∙_}
 use mathlib.Core.Bool.{Bool, true, false, cond}
 use mathlib.Core.List.{List, [], _∷_, _++_, map}
-use Prim.Native.Nat.{ℕ, suc, _+_, _-_, _*_, _/_, _≤_, _<_, _^_}
-use native.Mathlib.Nat.{le-div-iff-mul-le, div-le-self, suc-mul}
+use Prim.Native.Nat.{ℕ, zero, suc, _+_, _-_, _*_, _/_, _≤_, _<_, _^_}
+use native.Mathlib.Nat.{le-div-iff-mul-le, div-le-self, suc-mul, zero-add, add-zero, not-suc-le-zero, le-of-suc-le-suc}
 use native.Mathlib.Omega.{arith}
 use lib.Pow.{pow-mono}
 use borrow.Author.Tests.{eq-eqb, ne-eqb}
@@ -11,17 +11,16 @@ use lib.Dec.{eqb}
 use lib.ListN.{length, getD, set, replicate, take, drop, length-append, length-map, length-drop, drop-of-length-le}
 use lib.ListN.{List·getD-map}
 use lib.Seq.{drop-cons, getD-drop, getD-take, length-take-le}
-use Rattle.model.specs.Strings.{Trit, t0, t1, t*, Trits}
+use Rattle.model.specs.Strings.{Trit, t0, t1, t*, Trits, rising}
 use Rattle.model.specs.Growth.{Entries}
-use Rattle.words.specs.Words.{care-bit, value-bit, care-of, value-of, word}
+use Rattle.words.specs.Words.{care-bit, value-bit, care-of, value-of, entry}
 use Rattle.words.proofs.Digits.{care-bit-lt, value-bit-lt}
 use Rattle.words.proofs.Codec.{care-lt, value-lt}
 use Rattle.words.specs.declared.Entry.{Entry}
 use Rattle.tables.specs.declared.Table.{Table}
 use Rattle.tables.specs.Lists.{list-words, padded}
 use Rattle.tables.specs.Values.{table-of}
-use Rattle.tables.proofs.Values.{holds-empty, table-is}
-use Rattle.candidates.proofs.Filling.{Filling, fill-start, fill-add, fill-end}
+use Rattle.lists.proofs.Answering.{Column, column-start, column-turn, column-table}
 use Rattle.paper_examples.specs.Texts.{trit, string-at, count-in, strings-in, words-in}
 
 -- ---- One digit
@@ -104,7 +103,7 @@ module _ (l : ℕ) (text : List ℕ) (at : ℕ) (inside : at + l ≤ length text
         let from = rw back at (string-from (i - 1) (omega arith)) in
         (omega arith, rw (so-far .1, ec, from), rw (so-far .2, ev, from))
 
-    pub read-end : i ≤ 0 → record { care = care; value = value } ≡ word (string-at l text at)
+    pub read-end : i ≤ 0 → record { care = care; value = value } ≡ entry (string-at l text at)
     read-end done =
         let none : i ≡ 0 = omega arith in
         let c = rw none at (so-far .1) in
@@ -123,36 +122,60 @@ string-inside l n i lt =
 pub strings-few : (l n : ℕ) → n ≤ 254 → (n + 2) / (l + 2) ≤ 256
 strings-few l n h = omega (arith, div-le-self (n + 2) (l + 2))
 
--- the arrays hold the first i of the strings
+-- a row of one string for each index
+module _ (f : ℕ → Trits) where
+  row-length : (i n : ℕ) → length (rising (λ j. true) f i n) ≡ n
+  unfolding rising
+  row-length i zero = refl
+  row-length i (suc n) = ap suc (row-length (suc i) n)
+
+  row-at : (i n m : ℕ) → m < n → getD (rising (λ j. true) f i n) m [] ≡ f (i + m)
+  unfolding rising
+  row-at i zero m lt = absurd (not-suc-le-zero lt)
+  row-at i (suc n) zero lt = ap f (sym (add-zero i))
+  row-at i (suc n) (suc m) lt =
+      let z : suc i + m ≡ i + suc m = omega arith in
+      row-at (suc i) n m (le-of-suc-le-suc lt) ∙ ap f z
+
+-- the arrays have the first i of the strings
 abbrev pub Written : (l : ℕ) (text care value : List ℕ) (i : ℕ) → Type 0
 Written l text care value i =
-    Filling l (λ j. true) (λ j. string-at l text (j * (l + 2))) ((length text + 2) / (l + 2)) care value i i
+    Column (λ e. e .care) (strings-in l text) care i × Column (λ e. e .value) (strings-in l text) value i
 
 module _ (l : ℕ) (text : List ℕ) where
   pub write-start : Written l text (replicate 256 0) (replicate 256 0) 0
-  write-start = fill-start (holds-empty l)
+  write-start = (column-start _ _, column-start _ _)
+
+  strings-count : length (strings-in l text) ≡ (length text + 2) / (l + 2)
+  unfolding strings-in count-in
+  strings-count = row-length _ 0 _
 
   module _ {care value : List ℕ} {i : ℕ} (so-far : Written l text care value i) where
     pub write-turn : length text ≤ 254 → i < (length text + 2) / (l + 2) → (e : Entry)
-        → e ≡ word (string-at l text (i * (l + 2))) → Written l text (set care i (e .care)) (set value i (e .value)) (i + 1)
-    write-turn short lt e is =
-        fill-add so-far lt e refl is (string-long l text (i * (l + 2)) (string-inside l (length text) i lt))
-        (omega (arith, strings-few l (length text) short))
-
-    pub write-end : (n : ℕ) → n ≡ (length text + 2) / (l + 2) → i ≡ n
-        → record { l = l; n = n; care = care; value = value } ≡ table-of l (strings-in l text)
+        → e ≡ entry (string-at l text (i * (l + 2))) → Written l text (set care i (e .care)) (set value i (e .value)) (i + 1)
     unfolding strings-in count-in
-    write-end n all e =
-        table-is (rw e at (fill-end so-far (omega arith)))
+    write-turn short lt e is =
+        let at = row-at (λ j. string-at l text (j * (l + 2))) 0 ((length text + 2) / (l + 2)) i lt ∙ ap (λ (j : ℕ). string-at l text (j * (l + 2))) (zero-add i) in
+        let room : i < 256 = omega (arith, strings-few l (length text) short) in
+        let stands = is ∙ ap entry (sym at) in (
+          column-turn _ _ (so-far .0) (e .care) room (ap (λ (x : Entry). x .care) stands),
+          column-turn _ _ (so-far .1) (e .value) room (ap (λ (x : Entry). x .value) stands),
+        )
+
+    pub write-end : (n : ℕ) → length text ≤ 254 → n ≡ (length text + 2) / (l + 2) → i ≡ n
+        → record { l = l; n = n; care = care; value = value } ≡ table-of l (strings-in l text)
+    write-end n short all e =
+        column-table (omega (arith, strings-count, strings-few l (length text) short)) (omega (arith, strings-count)) e
+        (so-far .0) (so-far .1)
 
 -- ---- The words of a table's strings
 
 module _ (f : Entry → ℕ) (rest : List Entry) where
-  front-of : (τ : Entries) → take (length τ) (map f (map word τ ++ rest)) ≡ map (λ (s : Trits). f (word s)) τ
+  front-of : (τ : Entries) → take (length τ) (map f (map entry τ ++ rest)) ≡ map (λ (s : Trits). f (entry s)) τ
   front-of [] = refl
-  front-of (s ∷ τ) = ap (λ (ws : List ℕ). f (word s) ∷ ws) (front-of τ)
+  front-of (s ∷ τ) = ap (λ (ws : List ℕ). f (entry s) ∷ ws) (front-of τ)
 
-  front-long : (τ : Entries) → length τ ≤ length (map f (map word τ ++ rest))
+  front-long : (τ : Entries) → length τ ≤ length (map f (map entry τ ++ rest))
   front-long τ = simp (length-map, length-append) (omega arith)
 
 module _ (l : ℕ) (text : List ℕ) (t : Table) (e : t ≡ table-of l (strings-in l text)) where

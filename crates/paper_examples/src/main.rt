@@ -23,7 +23,7 @@ ghost use Prim.Native.Nat.{_+_, _-_, _^_, _≤_, _<_};
 ghost use lib.ListN.{length, replicate};
 ghost use Rattle.model.specs.Growth.{covered};
 ghost use Rattle.model.specs.Questions.{stands-for};
-ghost use Rattle.words.specs.Words.{care-bit, value-bit, word, set};
+ghost use Rattle.words.specs.Words.{care-bit, value-bit, entry, set};
 ghost use Rattle.tables.specs.Values.{GoodTable, entries-of, table-of};
 ghost use Rattle.sharing.specs.Calls.{side-of, convert-call, equation-call, projection-call};
 ghost use Rattle.questions.specs.Replies.{replies};
@@ -55,7 +55,7 @@ fn value_bit(b: u8) -> u32
 // The string of l positions that begins at an index of the text. Its last position is the highest bit, so it is read first.
 fn read_string(text: &[u8], at: usize, l: u32) -> Entry
     requires { ⌜ (l ≤ 16) × (at + l ≤ length (now text)) ⌝ }
-    ensures { λ r. ⌜ r ≡ word (string-at l (now (text .entry)) at) ⌝ }
+    ensures { λ r. ⌜ r ≡ entry (string-at l (now (text .entry)) at) ⌝ }
 {
     let mut care = 0u32;
     let mut value = 0u32;

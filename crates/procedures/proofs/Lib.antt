@@ -1,1 +1,7 @@
+pub mod Filling
+pub mod Sets
+pub mod RowLaws
 pub mod Folds
+pub mod Filtering
+pub mod Taking
+pub mod Regrouped

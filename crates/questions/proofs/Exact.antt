@@ -18,7 +18,7 @@ use Rattle.tables.specs.declared.Answer.{Answer}
 use Rattle.tables.specs.declared.Answer.the-variants as A
 use Rattle.tables.specs.Values.{entries-of, check-table, GoodTable}
 use Rattle.tables.proofs.Checking.{passes-good}
-use Rattle.equality.proofs.Inclusion.{equal-within}
+use Rattle.covering.proofs.Inclusion.{equal-within}
 use Rattle.sharing.specs.Outcomes.{TableValue, groups-of, JoinEarly, JoinReady}
 use Rattle.questions.specs.declared.Reply.{Reply}
 use Rattle.questions.specs.declared.Reply.the-variants.{Refused}

@@ -58,12 +58,12 @@ fn same_groups(t: Table, u: Table) -> bool
 {
     let l = t.l;
     let an = t.n;
-    let acare = t.care;
-    let avalue = t.value;
     let bn = u.n;
-    let bcare = u.care;
-    let bvalue = u.value;
-    equality::equal(&acare, &avalue, an, &bcare, &bvalue, bn, l)
+    let mut a = [0u64; 256];
+    lists::values::load(&t.care, &t.value, an, &mut a);
+    let mut b = [0u64; 256];
+    lists::values::load(&u.care, &u.value, bn, &mut b);
+    covering::equality::equal(&a, an, &b, bn, l)
 }
 
 // Are two tables of one side equal in groups? The answer is the same for both sides.
@@ -92,11 +92,11 @@ fn without(side: Side, t: Table, x: u32) -> bool
 {
     let l = t.l;
     let n = t.n;
-    let care = t.care;
-    let value = t.value;
+    let mut list = [0u64; 256];
+    lists::values::load(&t.care, &t.value, n, &mut list);
     match side {
-        Side::Positive => independence::ground_positive(&care, &value, n, x),
-        Side::Negative => independence::ground_negative(&care, &value, n, l, x),
+        Side::Positive => covering::independence::ground_positive(&list, n, x),
+        Side::Negative => covering::independence::ground_negative(&list, n, l, x),
     }
 }
 
@@ -125,11 +125,11 @@ fn unrelated(side: Side, t: Table, a: u32, b: u32) -> bool
 {
     let l = t.l;
     let n = t.n;
-    let care = t.care;
-    let value = t.value;
+    let mut list = [0u64; 256];
+    lists::values::load(&t.care, &t.value, n, &mut list);
     match side {
-        Side::Positive => independence::independent_positive(&care, &value, n, a, b),
-        Side::Negative => independence::independent_negative(&care, &value, n, l, a, b),
+        Side::Positive => covering::independence::independent_positive(&list, n, a, b),
+        Side::Negative => covering::independence::independent_negative(&list, n, l, a, b),
     }
 }
 

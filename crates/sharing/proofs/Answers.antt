@@ -7,13 +7,15 @@ use native.Mathlib.Omega.{arith}
 use borrow.Author.Tests.{ltb-true, leb-true}
 use lib.Dec.{ltb, leb}
 use lib.ListN.{length}
+use Rattle.model.specs.Growth.{Entries}
 use Rattle.model.specs.Terms.{Term, variables}
 use Rattle.model.specs.Tokens.{named}
 use Rattle.words.specs.Words.{set-word}
 use Rattle.tables.specs.declared.Table.{Table}
 use Rattle.tables.specs.declared.Refusal.{Refusal}
 use Rattle.tables.specs.declared.Refusal.the-variants as R
-use Rattle.tables.specs.Lists.{Holds}
+use Rattle.lists.specs.Lists.{Holds}
+use Rattle.tables.specs.Lists.{Stores}
 use Rattle.tables.specs.Values.{refuses, GoodTable, entries-of}
 use Rattle.tables.proofs.Checking.{good-holds, width-most}
 use Rattle.tables.proofs.Tests.{both-true, below-full}
@@ -31,8 +33,15 @@ module _ {t : Table} (g : GoodTable t) where
   pub good-wide : t .l ≤ 32
   good-wide = omega (arith, width-most (t .l) (g .width))
 
-  pub good-of-width : {l : ℕ} → t .l ≡ l → Holds l (t .care) (t .value) (t .n) (entries-of t)
-  good-of-width e = subst (λ (l : ℕ). Holds l (t .care) (t .value) (t .n) (entries-of t)) e (good-holds g)
+  -- the working list of its arrays
+  pub good-list : {list : List ℕ}
+      → ((l : ℕ) (τ : Entries) → l ≤ 32 → Stores l (t .care) (t .value) (t .n) τ → Holds l list (t .n) τ)
+      → Holds (t .l) list (t .n) (entries-of t)
+  good-list told = told _ _ good-wide (good-holds g)
+
+-- a list of strings of l positions, for another name of l
+pub held-as : {k l : ℕ} {list : List ℕ} {n : ℕ} {τ : Entries} → k ≡ l → Holds k list n τ → Holds l list n τ
+held-as {list = list} {n = n} {τ = τ} e h = subst (λ (l : ℕ). Holds l list n τ) e h
 
 -- ---- The equation's checks
 

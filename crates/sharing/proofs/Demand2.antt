@@ -29,7 +29,7 @@ use Rattle.tables.specs.Values.{table-of, entries-of, refuses, made-or-full, go
 use Rattle.tables.proofs.Values.{entries-of-table, table-of-good}
 use Rattle.tables.proofs.Checking.{width-most, passes-good}
 use Rattle.tables.proofs.Tests.{both-true}
-use Rattle.conversion.specs.Conversion.{all-below}
+use Rattle.lists.specs.Lists.{all-below}
 use Rattle.terms.specs.Checks as C
 use Rattle.sharing.specs.Calls.{after-check, after-term, good-keep, projected, convert-call, equation-call, join-call}
 use Rattle.sharing.specs.Calls.{projection-call, change-side-call}

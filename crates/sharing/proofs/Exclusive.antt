@@ -17,7 +17,7 @@ use Rattle.tables.specs.Refusals.{member, one-of}
 use Rattle.tables.specs.Values.{good-width, check-table, GoodTable}
 use Rattle.tables.proofs.Checking.{good-passes}
 use Rattle.tables.proofs.Numbers.{within, one-of-more, check-numbers}
-use Rattle.conversion.specs.Conversion.{all-below}
+use Rattle.lists.specs.Lists.{all-below}
 use Rattle.terms.specs.Checks as C
 use Rattle.terms.proofs.Checking.{equation-numbers}
 use Rattle.sharing.specs.Calls.{good-keep}

@@ -16,7 +16,7 @@ use Rattle.tables.specs.declared.Answer.{Answer}
 use Rattle.tables.specs.declared.Answer.the-variants.{Accepted, Refused}
 use Rattle.tables.specs.declared.Answered.{Answered}
 use Rattle.tables.specs.Values.{good-width, zero-table, entries-of, refuses, made-or-full, check-table}
-use Rattle.conversion.specs.Conversion.{all-below}
+use Rattle.lists.specs.Lists.{all-below}
 use Rattle.terms.specs.Checks as C
 use Rattle.sharing.specs.declared.Side.{Side}
 use Rattle.sharing.specs.declared.Side.the-variants.{Positive, Negative}

@@ -22,7 +22,7 @@ use Rattle.tables.specs.declared.Answer.the-variants.{Accepted, Refused}
 use Rattle.tables.specs.declared.Answered.{Answered}
 use Rattle.tables.specs.Refusals.{one-of}
 use Rattle.tables.specs.Values.{good-width, zero-table, entries-of, accepts, refuses, zero-past, check-table, GoodTable}
-use Rattle.conversion.specs.Conversion.{all-below}
+use Rattle.lists.specs.Lists.{all-below}
 use Rattle.terms.specs.Checks as C
 use Rattle.sharing.specs.Calls.{good-keep, convert-call, equation-call, join-call, projection-call}
 use Rattle.sharing.specs.Calls.{change-side-call}

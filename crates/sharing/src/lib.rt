@@ -7,17 +7,15 @@ use tables::Refusal;
 use tables::Table;
 use terms::Checked;
 ghost use mathlib.Core.Path.{_≡_};
-ghost use mathlib.Core.List.{[]};
-ghost use Prim.Native.Nat.{_≤_, _<_};
+ghost use Prim.Native.Nat.{_≤_};
 ghost use lib.ListN.{length};
 ghost use Rattle.model.specs.Groups.{Bits};
 ghost use Rattle.model.specs.Growth.{Entries};
 ghost use Rattle.model.specs.Tables.{equation-of-sets, join as join-lists, kept, projection};
 ghost use Rattle.words.specs.Words.{set-word};
-ghost use Rattle.tables.specs.Lists.{Holds};
-ghost use Rattle.lists.specs.Lists.{Makes};
+ghost use Rattle.lists.specs.Lists.{Holds, Within, Makes};
 ghost use Rattle.tables.specs.Values.{refuses, made-or-full, GoodTable, entries-of};
-ghost use Rattle.equations.specs.Parts.{OfSets};
+ghost use Rattle.procedures.specs.Parts.{OfSets};
 ghost use Rattle.sharing.specs.Calls.{side-of, side-told, convert-call, equation-call, join-call, projection-call};
 ghost use Rattle.sharing.specs.Calls.{change-side-call};
 
@@ -54,37 +52,34 @@ pub fn convert(l: u32, words: &[u32]) -> Answered
     if !tables::good_width(l) {
         return tables::refused(Refusal::Width);
     }
-    if !conversion::all_below(l, words) {
+    if !lists::conversion::all_below(l, words) {
         return tables::refused(Refusal::Stray);
     }
-    let mut care = [0u32; 256];
-    let mut value = [0u32; 256];
-    let g = conversion::convert(&mut care, &mut value, l, words);
-    lists::made_or_full(l, Table::zero(), g, &care, &value)
+    let mut list = [0u64; 256];
+    let g = lists::conversion::convert(&mut list, l, words);
+    lists::values::made_or_full(l, Table::zero(), g, &list)
 }
 
 // The entries after an equation, for x alone in mx and t's variables in mt.
 fn equation_list(
     side: Side,
-    tcare: &[u32; 256],
-    tvalue: &[u32; 256],
+    t: &[u64; 256],
     tn: usize,
     l: u32,
     mx: u32,
     mt: u32,
-    care: &mut [u32; 256],
-    value: &mut [u32; 256],
+    list: &mut [u64; 256],
 ) -> Grown
     requires { ⌜ (tn ≤ 256) × (l ≤ 32) ⌝ }
-    ensures { λ r. ⌜
-        OfSets l (now (tcare .entry)) (now (tvalue .entry)) tn mx mt (λ τ x t.
-        Holds l (now (care .entry)) (now (value .entry)) 0 []
-        → Makes l (now (care .exit)) (now (value .exit)) r (equation-of-sets (side-of side) l x t τ))
+    ensures within { λ r. ⌜ Within r ⌝ }
+    ensures made { λ r. ⌜
+        OfSets l (now (t .entry)) tn mx mt (λ τ x t.
+        Makes l (now (list .exit)) r (equation-of-sets (side-of side) l x t τ))
         ⌝ }
 {
     match side {
-        Side::Positive => equations::positive(tcare, tvalue, tn, l, mx, mt, care, value),
-        Side::Negative => equations::negative(tcare, tvalue, tn, l, mx, mt, care, value),
+        Side::Positive => procedures::equations::positive(t, tn, l, mx, mt, list),
+        Side::Negative => procedures::equations::negative(t, tn, l, mx, mt, list),
     }
 }
 
@@ -98,12 +93,23 @@ fn equate(side: Side, t: Table, mx: u32, mt: u32) -> Answered
 {
     let l = t.l;
     let n = t.n;
-    let tcare = t.care;
-    let tvalue = t.value;
-    let mut care = [0u32; 256];
-    let mut value = [0u32; 256];
-    let g = equation_list(side, &tcare, &tvalue, n, l, mx, mt, &mut care, &mut value);
-    lists::made_or_full(l, t, g, &care, &value)
+    let mut given = [0u64; 256];
+    lists::values::load(&t.care, &t.value, n, &mut given);
+    let mut list = [0u64; 256];
+    let g = equation_list(side, &given, n, l, mx, mt, &mut list);
+    lists::values::made_or_full(l, t, g, &list)
+}
+
+// The equation Xx = the term of the tokens, on a good table. Inner: not a public call.
+pub fn equation_checked(side: Side, t: Table, x: u32, ts: &[u16]) -> Answered
+    requires { ⌜ GoodTable t ⌝ }
+    ensures { λ r. ⌜ r ≡ equation-call (side-of side) t x (now (ts .entry)) ⌝ }
+{
+    let l = t.l;
+    match terms::check_equation(l, x, ts) {
+        Checked::Refused(r) => refused(r, t),
+        Checked::Variables(m) => equate(side, t, 1u32 << (x - 1), m),
+    }
 }
 
 // The equation Xx = the term of the tokens.
@@ -112,43 +118,30 @@ pub fn equation(side: Side, t: Table, x: u32, ts: &[u16]) -> Answered
 {
     match tables::check(t) {
         Answer::Refused(r) => refused(r, t),
-        Answer::Accepted => {
-            let l = t.l;
-            match terms::check_equation(l, x, ts) {
-                Checked::Refused(r) => refused(r, t),
-                Checked::Variables(m) => equate(side, t, 1u32 << (x - 1), m),
-            }
-        }
+        Answer::Accepted => equation_checked(side, t, x, ts),
     }
 }
 
 // The entries of the join of two lists.
 fn join_list(
     side: Side,
-    acare: &[u32; 256],
-    avalue: &[u32; 256],
+    a: &[u64; 256],
     an: usize,
-    bcare: &[u32; 256],
-    bvalue: &[u32; 256],
+    b: &[u64; 256],
     bn: usize,
     l: u32,
-    care: &mut [u32; 256],
-    value: &mut [u32; 256],
+    list: &mut [u64; 256],
 ) -> Grown
     requires { ⌜ (an ≤ 256) × (bn ≤ 256) × (l ≤ 32) ⌝ }
-    ensures { λ r. ⌜
-        ((α β : Entries) → Holds l (now (acare .entry)) (now (avalue .entry)) an α
-        → Holds l (now (bcare .entry)) (now (bvalue .entry)) bn β → Holds l (now (care .entry)) (now (value .entry)) 0 []
-        → Makes l (now (care .exit)) (now (value .exit)) r (join-lists (side-of side) α β))
+    ensures within { λ r. ⌜ Within r ⌝ }
+    ensures made { λ r. ⌜
+        ((α β : Entries) → Holds l (now (a .entry)) an α → Holds l (now (b .entry)) bn β
+        → Makes l (now (list .exit)) r (join-lists (side-of side) α β))
         ⌝ }
 {
     match side {
-        Side::Positive => {
-            *care = *acare;
-            *value = *avalue;
-            growing::grow_each(care, value, an, l, bcare, bvalue, bn)
-        }
-        Side::Negative => procedures::meets(acare, avalue, an, bcare, bvalue, bn, l, care, value),
+        Side::Positive => procedures::projections::join_positive(a, an, b, bn, l, list),
+        Side::Negative => procedures::projections::join_negative(a, an, b, bn, l, list),
     }
 }
 
@@ -161,26 +154,14 @@ fn unite(side: Side, t: Table, u: Table) -> Answered
 {
     let l = t.l;
     let an = t.n;
-    let acare = t.care;
-    let avalue = t.value;
     let bn = u.n;
-    let bcare = u.care;
-    let bvalue = u.value;
-    let mut care = [0u32; 256];
-    let mut value = [0u32; 256];
-    let g = join_list(
-        side,
-        &acare,
-        &avalue,
-        an,
-        &bcare,
-        &bvalue,
-        bn,
-        l,
-        &mut care,
-        &mut value,
-    );
-    lists::made_or_full(l, t, g, &care, &value)
+    let mut a = [0u64; 256];
+    lists::values::load(&t.care, &t.value, an, &mut a);
+    let mut b = [0u64; 256];
+    lists::values::load(&u.care, &u.value, bn, &mut b);
+    let mut list = [0u64; 256];
+    let g = join_list(side, &a, an, &b, bn, l, &mut list);
+    lists::values::made_or_full(l, t, g, &list)
 }
 
 // The join of two tables of one side.
@@ -205,24 +186,22 @@ pub fn join(side: Side, t: Table, u: Table) -> Answered
 // The entries of the projection of a list onto the set keep.
 fn projection_list(
     side: Side,
-    tcare: &[u32; 256],
-    tvalue: &[u32; 256],
+    t: &[u64; 256],
     tn: usize,
     l: u32,
     keep: u32,
-    care: &mut [u32; 256],
-    value: &mut [u32; 256],
+    list: &mut [u64; 256],
 ) -> Grown
     requires { ⌜ (tn ≤ 256) × (l ≤ 32) ⌝ }
-    ensures { λ r. ⌜
-        ((k : Bits) (τ : Entries) → Holds l (now (tcare .entry)) (now (tvalue .entry)) tn τ → length k ≡ l
-        → keep ≡ set-word k → Holds (kept k) (now (care .entry)) (now (value .entry)) 0 []
-        → Makes (kept k) (now (care .exit)) (now (value .exit)) r (projection (side-of side) l k τ))
+    ensures within { λ r. ⌜ Within r ⌝ }
+    ensures made { λ r. ⌜
+        ((k : Bits) (τ : Entries) → Holds l (now (t .entry)) tn τ → length k ≡ l → keep ≡ set-word k
+        → Makes (kept k) (now (list .exit)) r (projection (side-of side) l k τ))
         ⌝ }
 {
     match side {
-        Side::Positive => projections::positive(tcare, tvalue, tn, keep, care, value),
-        Side::Negative => projections::negative(tcare, tvalue, tn, l, keep, care, value),
+        Side::Positive => procedures::projections::positive(t, tn, keep, list),
+        Side::Negative => procedures::projections::negative(t, tn, l, keep, list),
     }
 }
 
@@ -238,12 +217,11 @@ pub fn project(side: Side, t: Table, keep: u32) -> Answered
                 return refused(Refusal::Keep, t);
             }
             let n = t.n;
-            let tcare = t.care;
-            let tvalue = t.value;
-            let mut care = [0u32; 256];
-            let mut value = [0u32; 256];
-            let g = projection_list(side, &tcare, &tvalue, n, l, keep, &mut care, &mut value);
-            lists::made_or_full(u32::count_ones(keep), t, g, &care, &value)
+            let mut given = [0u64; 256];
+            lists::values::load(&t.care, &t.value, n, &mut given);
+            let mut list = [0u64; 256];
+            let g = projection_list(side, &given, n, l, keep, &mut list);
+            lists::values::made_or_full(u32::count_ones(keep), t, g, &list)
         }
     }
 }
@@ -257,12 +235,11 @@ pub fn change_side(side: Side, t: Table) -> Answered
         Answer::Accepted => {
             let l = t.l;
             let n = t.n;
-            let tcare = t.care;
-            let tvalue = t.value;
-            let mut care = [0u32; 256];
-            let mut value = [0u32; 256];
-            let g = sides::change_side(&tcare, &tvalue, n, l, &mut care, &mut value);
-            lists::made_or_full(l, t, g, &care, &value)
+            let mut given = [0u64; 256];
+            lists::values::load(&t.care, &t.value, n, &mut given);
+            let mut list = [0u64; 256];
+            let g = procedures::sides::change_side(&given, n, l, &mut list);
+            lists::values::made_or_full(l, t, g, &list)
         }
     }
 }

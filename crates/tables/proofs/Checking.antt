@@ -14,18 +14,18 @@ use Rattle.model.specs.Strings.{Trits}
 use Rattle.model.specs.Growth.{Entries, limit}
 use Rattle.model.specs.Tables.{Wide}
 use Rattle.words.specs.declared.Entry.{Entry}
-use Rattle.words.specs.Words.{word, care-of, value-of, string, Encodes}
+use Rattle.words.specs.Words.{entry, care-of, value-of, string, Encodes}
 use Rattle.words.proofs.Codec.{clean-encodes, string-length, care-lt, value-in}
 use Rattle.tables.specs.declared.Table.{Table}
 use Rattle.tables.specs.declared.Refusal.{Refusal}
 use Rattle.tables.specs.declared.Refusal.the-variants as R
 use Rattle.tables.specs.declared.Answer.the-variants.{Accepted, Refused}
-use Rattle.tables.specs.Lists.{zero-entry, padded, list-words, Holds, pairs, strings}
+use Rattle.tables.specs.Lists.{zero-entry, padded, list-words, Stores, pairs, strings}
 use Rattle.tables.specs.Values.{clean, is-zero, entry-at, all-from, all-clean, zero-past, good-width, table-of}
 use Rattle.tables.specs.Values.{entries-of}
 use Rattle.tables.specs.Values.{check-table, GoodTable}
-use Rattle.tables.proofs.Arrays.{arrays-at, holds-at, holds-length}
-use Rattle.tables.proofs.Values.{holds-good}
+use Rattle.tables.proofs.Arrays.{arrays-at, stores-at, stores-length}
+use Rattle.tables.proofs.Values.{stores-good}
 use Rattle.tables.proofs.Tests.{below-full, both-true}
 
 -- ---- A test of all indexes
@@ -57,7 +57,7 @@ pub clean-hit : (l full c v : ℕ) → full ≡ 2 ^ l - 1
 unfolding clean
 clean-hit l full c v e = ap (λ (b : Bool). b && eqb (bitAnd v c) v) (below-full l c full e)
 
-clean-is : (l : ℕ) (e : Entry) → clean l e ≡ true → Encodes l e
+pub clean-is : (l : ℕ) (e : Entry) → clean l e ≡ true → Encodes l e
 unfolding clean
 clean-is l e h =
     let t = both-true (ltb (e .care) (2 ^ l)) _ h in
@@ -66,7 +66,7 @@ clean-is l e h =
     let le : bitAnd (e .value) (e .care) ≤ e .care = and-le-r (e .value) (e .care) in
     clean-encodes l e c (omega (arith, v)) v
 
-clean-word : (l : ℕ) (s : Trits) → length s ≡ l → clean l (word s) ≡ true
+clean-word : (l : ℕ) (s : Trits) → length s ≡ l → clean l (entry s) ≡ true
 unfolding clean
 clean-word l s e =
     rw (← e, lt-ltb (care-of s) (2 ^ length s) (care-lt s), eq-eqb (bitAnd (value-of s) (care-of s)) (value-of s) (value-in s))
@@ -109,7 +109,7 @@ pairs-at (c ∷ cs) (v ∷ vs) e (suc i) = pairs-at cs vs (omega arith) i
 
 -- entries that encode strings are the words of the strings that they stand for
 kept : (l : ℕ) (ws : List Entry) (n : ℕ) → n ≤ length ws → ((m : ℕ) → m < n → Encodes l (getD ws m zero-entry))
-    → take n ws ≡ map word (map (string l) (take n ws))
+    → take n ws ≡ map entry (map (string l) (take n ws))
 kept l ws zero h f = refl
 kept l [] (suc n) h f = absurd (not-suc-le-zero h)
 kept l (w ∷ ws) (suc n) h f =
@@ -135,7 +135,7 @@ module _ (l : ℕ) (ws : List Entry) (n : ℕ) (len : length ws ≡ limit) (few 
   unfolding list-words padded
   own-words enc zer =
       let gone : length (drop n ws) ≡ limit - n = length-drop n ws ∙ ap (λ (k : ℕ). k - n) len in
-      let front : length (map word (map (string l) (take n ws))) ≡ n = length-map (map (string l) (take n ws)) word ∙ taken in
+      let front : length (map entry (map (string l) (take n ws))) ≡ n = length-map (map (string l) (take n ws)) entry ∙ taken in
       sym (take-append-drop n ws)
       ∙ ap₂ {C = List Entry} (λ x r. x ++ r)
       (kept l ws n (omega (arith, len, few)) enc)
@@ -145,7 +145,7 @@ module _ (l : ℕ) (ws : List Entry) (n : ℕ) (len : length ws ≡ limit) (few 
 module _ (l : ℕ) (care value : List ℕ) (n : ℕ) (cs : length care ≡ limit) (vs : length value ≡ limit) (few : n ≤ limit) where
   -- two arrays that pass the check hold the list that they are read as
   pub checked-holds : all-clean l n care value ≡ true → zero-past n care value ≡ true
-      → Holds l care value n (strings l care value n)
+      → Stores l care value n (strings l care value n)
   unfolding strings all-clean zero-past
   checked-holds a z =
       let same : length care ≡ length value = cs ∙ sym vs in
@@ -176,26 +176,26 @@ past-at : (ws : List Entry) (k m : ℕ) → getD (ws ++ replicate k zero-entry) 
 past-at [] k m = rw (zero-add m) (replicate-at k m)
 past-at (w ∷ ws) k m = rw (suc-add (length ws) m) (past-at ws k m)
 
-module _ {l : ℕ} {care value : List ℕ} {n : ℕ} {τ : Entries} (h : Holds l care value n τ) where
+module _ {l : ℕ} {care value : List ℕ} {n : ℕ} {τ : Entries} (h : Stores l care value n τ) where
   holds-clean : all-clean l n care value ≡ true
   unfolding all-clean
   holds-clean =
       all-intro (λ i. clean l (entry-at care value i)) 0 n
-      (λ m lt. rw (zero-add m, holds-at h m lt) (clean-word l (getD τ m []) (holds-length h m lt)))
+      (λ m lt. rw (zero-add m, stores-at h m lt) (clean-word l (getD τ m []) (stores-length h m lt)))
 
   holds-zero : zero-past n care value ≡ true
   unfolding zero-past is-zero list-words padded
   holds-zero =
       all-intro (λ i. is-zero (entry-at care value i)) n (limit - n)
       (λ m lt.
-      let here : n ≡ length (map word τ) = h .count ∙ sym (length-map τ word) in
+      let here : n ≡ length (map entry τ) = h .count ∙ sym (length-map τ entry) in
       ap is-zero
       (arrays-at (h .arrays) (n + m)
       ∙ ap (λ (k : ℕ). getD (list-words τ) (k + m) zero-entry) here
-      ∙ past-at (map word τ) (limit - length (map word τ)) m))
+      ∙ past-at (map entry τ) (limit - length (map entry τ)) m))
 
 -- what a good table value holds
-pub good-holds : {t : Table} → GoodTable t → Holds (t .l) (t .care) (t .value) (t .n) (entries-of t)
+pub good-holds : {t : Table} → GoodTable t → Stores (t .l) (t .care) (t .value) (t .n) (entries-of t)
 unfolding table-of
 good-holds g = record {
   arrays = record { cares = ap (λ (x : Table). x .care) (g .same); values = ap (λ (x : Table). x .value) (g .same) };
@@ -211,9 +211,9 @@ module _ {t : Table} (g : GoodTable t) where
   words-long : length (list-words (entries-of t)) ≡ limit
   unfolding list-words padded
   words-long =
-      let ws = map word (entries-of t) in
+      let ws = map entry (entries-of t) in
       length-append ws (replicate (limit - length ws) zero-entry)
-      ∙ omega (arith, g .list .few, length-map (entries-of t) word, length-replicate {A = Entry} (limit - length ws) zero-entry)
+      ∙ omega (arith, g .list .few, length-map (entries-of t) entry, length-replicate {A = Entry} (limit - length ws) zero-entry)
 
   -- arrays of 256 words
   pub good-long : (length (t .care) ≡ limit) × (length (t .value) ≡ limit)
@@ -262,7 +262,7 @@ passes-good t cs vs e =
     let past = zero-past (t .n) (t .care) (t .value) in
     let p = all-passed (good-width (t .l)) (leb (t .n) limit) (clean && past) e in
     let b = both-true clean past (p .2) in
-    holds-good t (p .0) (checked-holds (t .l) (t .care) (t .value) (t .n) cs vs (leb-true (t .n) limit (p .1)) (b .0) (b .1))
+    stores-good t (p .0) (checked-holds (t .l) (t .care) (t .value) (t .n) cs vs (leb-true (t .n) limit (p .1)) (b .0) (b .1))
 
 pub told-accepted : (t : Table) → length (t .care) ≡ limit → length (t .value) ≡ limit → Accepted ≡ check-table t
     → (Accepted ≡ check-table t) × ((Accepted ≡ Accepted → GoodTable t) × (GoodTable t → Accepted ≡ Accepted))

@@ -1,4 +1,4 @@
--- How two arrays of 256 words and a count hold a list of strings.
+-- How two arrays of 256 words and a count store a list of strings.
 use mathlib.Core.Path.{_≡_}
 use mathlib.Core.Bool.{Bool, false, _||_}
 use mathlib.Core.List.{List, [], _∷_, _++_, map}
@@ -8,7 +8,7 @@ use Rattle.model.specs.Strings.{Trits}
 use Rattle.model.specs.Growth.{Entries, limit}
 use Rattle.model.specs.Tables.{Good}
 use Rattle.words.specs.declared.Entry.{Entry}
-use Rattle.words.specs.Words.{word, string}
+use Rattle.words.specs.Words.{entry, string}
 
 -- Care and value word both 0.
 abbrev pub zero-entry : Entry
@@ -20,15 +20,15 @@ padded ws = ws ++ replicate (limit - length ws) zero-entry
 
 -- The words of a list of strings, with zeros up to 256.
 unfoldable pub list-words : Entries → List Entry
-list-words τ = padded (map word τ)
+list-words τ = padded (map entry τ)
 
 -- The two arrays have the care and the value words of ws.
 pub record Arrays (care value : List ℕ) (ws : List Entry) : Type 0 where
   pub cares : care ≡ map (λ (e : Entry). e .care) ws
   pub values : value ≡ map (λ (e : Entry). e .value) ws
 
--- The arrays and the count n hold τ, a good list of strings of l positions; past the count the arrays are zero.
-pub record Holds (l : ℕ) (care value : List ℕ) (n : ℕ) (τ : Entries) : Type 0 where
+-- The arrays and the count n store τ, a good list of strings of l positions; past the count the arrays are zero.
+pub record Stores (l : ℕ) (care value : List ℕ) (n : ℕ) (τ : Entries) : Type 0 where
   pub arrays : Arrays care value (list-words τ)
   pub count : n ≡ length τ
   pub good : Good l τ

@@ -144,7 +144,7 @@ pub fn refused(r: Refusal) -> Answered
 }
 
 // Has none of the first n entries a bit above l or a value without care? Inner: not a public call.
-pub fn all_clean(care: &[u32; 256], value: &[u32; 256], n: usize, l: u32) -> bool
+pub fn all_clean<'a>(care: &'a [u32; 256], value: &'a [u32; 256], n: usize, l: u32) -> bool
     requires { ⌜ (n ≤ 256) × (l ≤ 32) ⌝ }
     ensures { λ r. ⌜ r ≡ all-clean l n (now (care .entry)) (now (value .entry)) ⌝ }
 {
@@ -161,7 +161,7 @@ pub fn all_clean(care: &[u32; 256], value: &[u32; 256], n: usize, l: u32) -> boo
 }
 
 // Are the entries past the first n zero?
-fn zero_past(care: &[u32; 256], value: &[u32; 256], n: usize) -> bool
+fn zero_past<'a>(care: &'a [u32; 256], value: &'a [u32; 256], n: usize) -> bool
     requires { ⌜ n ≤ 256 ⌝ }
     ensures { λ r. ⌜ r ≡ zero-past n (now (care .entry)) (now (value .entry)) ⌝ }
 {
@@ -189,12 +189,10 @@ pub fn check(t: Table) -> Answer
     if Table::ENTRIES < n {
         return Answer::Refused(Refusal::Entries);
     }
-    let care = t.care;
-    let value = t.value;
-    if !all_clean(&care, &value, n, l) {
+    if !all_clean(&t.care, &t.value, n, l) {
         return Answer::Refused(Refusal::Stray);
     }
-    if !zero_past(&care, &value, n) {
+    if !zero_past(&t.care, &t.value, n) {
         return Answer::Refused(Refusal::Stray);
     }
     Answer::Accepted

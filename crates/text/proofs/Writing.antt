@@ -14,10 +14,10 @@ use Rattle.model.specs.Strings.{Trits}
 use Rattle.model.specs.Growth.{Entries}
 use Rattle.model.specs.Tables.{Wide}
 use Rattle.words.specs.Words.{string, trit-of}
-use Rattle.words.proofs.Codec.{string-of-word}
+use Rattle.words.proofs.Codec.{string-of-entry}
 use Rattle.tables.specs.declared.Table.{Table}
 use Rattle.tables.specs.Values.{entries-of, GoodTable}
-use Rattle.tables.proofs.Arrays.{holds-at, holds-length}
+use Rattle.tables.proofs.Arrays.{stores-at, stores-length}
 use Rattle.tables.proofs.Checking.{good-holds}
 use Rattle.codec.proofs.Laws.{sets-append}
 use Rattle.text.specs.Text.{newline, digit, decimal, line, character, entry-text, entries-text}
@@ -122,7 +122,7 @@ module _ {t : Table} (good : GoodTable t) (i : ℕ) (lt : i < t .n) where
   -- the words at that index are its words
   pub entry-here : string (t .l) (record { care = getD (t .care) i 0; value = getD (t .value) i 0 }) ≡ here
   entry-here =
-      string-of-word (t .l) _ here (holds-length (good-holds good) i lt) (holds-at (good-holds good) i lt)
+      string-of-entry (t .l) _ here (stores-length (good-holds good) i lt) (stores-at (good-holds good) i lt)
 
   -- what is left to write is one line longer than after it
   pub left-length : length (entries-text (drop i (entries-of t)))
@@ -131,7 +131,7 @@ module _ {t : Table} (good : GoodTable t) (i : ℕ) (lt : i < t .n) where
   left-length =
       rw entries-from (length-append (entry-text here) (entries-text (drop (i + 1) (entries-of t)))
       ∙ ap (λ (k : ℕ). k + length (entries-text (drop (i + 1) (entries-of t))))
-      (entry-length here ∙ ap (λ (k : ℕ). k + 1) (holds-length (good-holds good) i lt)))
+      (entry-length here ∙ ap (λ (k : ℕ). k + 1) (stores-length (good-holds good) i lt)))
 
   pub entries-turn : (out : List ℕ) (at : ℕ) {out′ : List ℕ}
       → out′ ≡ sets out at (entry-text (string (t .l) (record { care = getD (t .care) i 0; value = getD (t .value) i 0 })))
@@ -140,7 +140,7 @@ module _ {t : Table} (good : GoodTable t) (i : ℕ) (lt : i < t .n) where
   unfolding entries-text
   entries-turn out at e =
       let long : length (entry-text here) ≡ t .l + 1 =
-      entry-length here ∙ ap (λ (k : ℕ). k + 1) (holds-length (good-holds good) i lt) in
+      entry-length here ∙ ap (λ (k : ℕ). k + 1) (stores-length (good-holds good) i lt) in
       rw (e, entry-here, entries-from, ← long)
       (sym (sets-append (entry-text here) (entries-text (drop (i + 1) (entries-of t))) out at))
 

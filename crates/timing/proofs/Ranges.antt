@@ -1,19 +1,17 @@
--- The answers of the entry points, and the numbers that they take. Assumes nothing.
-use mathlib.Core.Path.{_≡_, sym, _∙_}
-use mathlib.Core.Bool.{Bool, true, false}
+-- The numbers that the entry points take and answer. Assumes nothing.
+use mathlib.Core.Path.{_≡_, sym, ap, _∙_}
+use mathlib.Core.Bool.{Bool, true, false, _&&_}
 use mathlib.Core.List.{List}
 use mathlib.Core.Option.{Option}
 use Prim.Native.Nat.{ℕ, _≤_}
 use native.Mathlib.Omega.{arith}
-use borrow.Author.Tests.{le-leb}
+use borrow.Author.Tests.{leb-true, le-leb}
 use Rattle.model.specs.Growth.{Entries}
-use Rattle.tables.specs.declared.Refusal.{Refusal}
-use Rattle.tables.specs.declared.Refusal.the-variants as R
+use Rattle.tables.proofs.Tests.{both-true}
 use Rattle.lists.specs.declared.Grown.{Grown}
-use Rattle.lists.specs.declared.Grown.the-variants.{Count, Full}
-use Rattle.lists.specs.Lists.{Leaves}
-use Rattle.tables.specs.Refusals.{refusal-number}
-use Rattle.timing.specs.Timed.{grown}
+use Rattle.lists.specs.declared.Grown.the-variants.{Count}
+use Rattle.lists.specs.Lists.{Makes}
+use Rattle.timing.specs.Timed.{fits, grown}
 
 true-false : true ≡ false → ⊥
 true-false e = let z : _≡_ {A = ℕ} 0 1 = cc in omega arith
@@ -22,26 +20,19 @@ true-false e = let z : _≡_ {A = ℕ} 0 1 = cc in omega arith
 pub not-both : {A : Type 0} {b : Bool} → b ≡ true → b ≡ false → A
 not-both t f = absurd (true-false (sym t ∙ f))
 
-module _ {l : ℕ} {care₀ value₀ care value : List ℕ} {r : Grown} {o : Option Entries}
-    (told : Leaves l care₀ value₀ care value r o) where
-  pub leaves-number : {k : ℕ} → r ≡ Count k → k ≤ 256 → Leaves l care₀ value₀ care value (grown k) o
-  leaves-number {k = k} e h = let t = rw e at told in rw (le-leb k 256 h) t
+-- a test of two parts, the first by another name
+pub tested : {a b v : Bool} (c : Bool) → a ≡ b → (a && c) ≡ v → (b && c) ≡ v
+tested c e t = ap (λ (x : Bool). x && c) (sym e) ∙ t
 
-  pub leaves-257 : r ≡ Full → Leaves l care₀ value₀ care value (grown 257) o
-  leaves-257 e = rw e at told
+-- what is in range
+pub in-range : (n l : ℕ) → fits n l ≡ true → (n ≤ 256) × (l ≤ 32)
+in-range n l h = let t = both-true _ _ h in (leb-true n 256 (t .0), leb-true l 32 (t .1))
 
-refusal-few : (r : Refusal) → refusal-number r ≤ 11
-refusal-few R.Torn = omega arith
-refusal-few R.Width = omega arith
-refusal-few R.Entries = omega arith
-refusal-few R.Stray = omega arith
-refusal-few R.Name = omega arith
-refusal-few R.Term = omega arith
-refusal-few R.Long = omega arith
-refusal-few R.Full = omega arith
-refusal-few R.Narrow = omega arith
-refusal-few R.Unlike = omega arith
-refusal-few R.Keep = omega arith
+-- a count within the limit as a number
+pub count-number : {g : Grown} (k : ℕ) → g ≡ Count k → k ≤ 256 → grown k ≡ g
+count-number k e h = rw (le-leb k 256 h, e)
 
-pub number-few : (k : ℕ) (r : Refusal) → k ≡ refusal-number r → k ≤ 11
-number-few k r e = omega (arith, e, refusal-few r)
+-- what a list was grown to, by the number for it
+pub numbered : {l : ℕ} {list : List ℕ} {g : Grown} {o : Option Entries} (r : ℕ) → grown r ≡ g → Makes l list g o
+    → Makes l list (grown r) o
+numbered r e told = rw e told

@@ -16,7 +16,7 @@ use Rattle.model.specs.Groups.{Bits, nonzero, or}
 use Rattle.model.specs.Strings.{Trit, t0, t1, t*, Trits, exactly, stars}
 use Rattle.model.proofs.Given.{Each}
 use Rattle.words.specs.declared.Entry.{Entry}
-use Rattle.words.specs.Words.{care-bit, value-bit, care-of, value-of, word, set-word, trit-of, string, set, Encodes}
+use Rattle.words.specs.Words.{care-bit, value-bit, care-of, value-of, entry, set-word, trit-of, string, set, Encodes}
 use Rattle.words.proofs.Digits.{care-bit-lt, value-bit-lt, eqb-digit}
 
 -- ---- From a string and back
@@ -26,10 +26,10 @@ trit-of-bits t0 = refl
 trit-of-bits t1 = refl
 trit-of-bits t* = refl
 
-pub string-word : (s : Trits) → string (length s) (word s) ≡ s
+pub string-entry : (s : Trits) → string (length s) (entry s) ≡ s
 unfolding string care-of value-of
-string-word [] = refl
-string-word (t ∷ s) =
+string-entry [] = refl
+string-entry (t ∷ s) =
     ap₂ {C = Trits} (λ b r. b ∷ r)
     (ap₂ trit-of (digits-mod (care-of s) (care-bit-lt t)) (digits-mod (value-of s) (value-bit-lt t)) ∙ trit-of-bits t)
     (ap (string (length s)) (λ i. record {
@@ -37,15 +37,15 @@ string-word (t ∷ s) =
       value = digits-div (value-of s)
           (value-bit-lt t) i;
     })
-    ∙ string-word s)
+    ∙ string-entry s)
 
 pub string-length : (l : ℕ) (e : Entry) → length (string l e) ≡ l
 unfolding string
 string-length zero e = refl
 string-length (suc l) e = ap suc (string-length l _)
 
-pub string-of-word : (l : ℕ) (e : Entry) (s : Trits) → length s ≡ l → e ≡ word s → string l e ≡ s
-string-of-word l e s n d = rw (← n, d) (string-word s)
+pub string-of-entry : (l : ℕ) (e : Entry) (s : Trits) → length s ≡ l → e ≡ entry s → string l e ≡ s
+string-of-entry l e s n d = rw (← n, d) (string-entry s)
 
 pub care-lt : (s : Trits) → care-of s < 2 ^ length s
 unfolding care-of
@@ -205,13 +205,13 @@ value-exactly (true ∷ g) = rw (value-exactly g)
 value-exactly (false ∷ g) = rw (value-exactly g)
 
 -- the words of the string that covers one string of 0 and 1: all positions fixed
-pub exactly-word : (g : Bits) → word (exactly g) ≡ record { care = 2 ^ length g - 1; value = set-word g }
-exactly-word g = λ i. record { care = care-exactly g i; value = value-exactly g i }
+pub exactly-entry : (g : Bits) → entry (exactly g) ≡ record { care = 2 ^ length g - 1; value = set-word g }
+exactly-entry g = λ i. record { care = care-exactly g i; value = value-exactly g i }
 
 -- all l bits of care with the word of a group are the words of the string that covers just that group
-pub group-word : (g : Bits) (full w l : ℕ) → length g ≡ l → full ≡ 2 ^ l - 1 → w ≡ set-word g
-    → record { care = full; value = w } ≡ word (exactly g)
-group-word g full w l e f is = rw (f, is, ← e) (sym (exactly-word g))
+pub group-entry : (g : Bits) (full w l : ℕ) → length g ≡ l → full ≡ 2 ^ l - 1 → w ≡ set-word g
+    → record { care = full; value = w } ≡ entry (exactly g)
+group-entry g full w l e f is = rw (f, is, ← e) (sym (exactly-entry g))
 
 -- ---- The first position of a set
 
@@ -252,10 +252,10 @@ unfolding stars care-of
 care-stars zero = refl
 care-stars (suc l) = rw (care-stars l)
 
-value-stars : (l : ℕ) → value-of (stars l) ≡ 0
+pub value-stars : (l : ℕ) → value-of (stars l) ≡ 0
 unfolding stars value-of
 value-stars zero = refl
 value-stars (suc l) = rw (value-stars l)
 
-pub stars-word : (l : ℕ) → word (stars l) ≡ record { care = 0; value = 0 }
-stars-word l = λ i. record { care = care-stars l i; value = value-stars l i }
+pub stars-entry : (l : ℕ) → entry (stars l) ≡ record { care = 0; value = 0 }
+stars-entry l = λ i. record { care = care-stars l i; value = value-stars l i }

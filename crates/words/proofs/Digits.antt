@@ -1,16 +1,19 @@
 -- An operation on the words of strings goes position by position: a word's last digit is the first position's, and a bit
 -- operation works on that digit and on the rest apart. Assumes nothing.
 use mathlib.Core.Path.{_≡_, refl, sym, ap, ap₂, _∙_}
-use mathlib.Core.Bool.{Bool, true, false, _&&_}
-use mathlib.Core.List.{_∷_}
+use mathlib.Core.Bool.{Bool, true, false, false≢true, _&&_}
+use mathlib.Core.List.{[], _∷_}
 use Prim.Native.Nat.{ℕ, _+_, _*_, _/_, _%_, _^_, _<_}
+use native.Mathlib.Nat.{suc-inj, suc-ne-zero}
 use borrow.Author.Tests.{eq-eqb, ne-eqb, eqb-true, eqb-false}
 use lib.Bits.{bitAnd, bitOr, bitXor, and-block, or-block, xor-block, and-lt, or-lt, xor-lt}
 use lib.Dec.{eqb, lit<}
+use lib.ListN.{length}
 use lib.Pow.{high, low}
 use Rattle.model.specs.Strings.{Trit, t0, t1, t*, Trits}
-use Rattle.words.specs.Words.{care-bit, value-bit, care-of, value-of}
+use Rattle.words.specs.Words.{care-bit, value-bit, zero-bit, zeros-of, value-of}
 
+-- each bit of a position is a digit
 pub care-bit-lt : (t : Trit) → care-bit t < 2
 care-bit-lt t0 = lit< tt
 care-bit-lt t1 = lit< tt
@@ -21,18 +24,24 @@ value-bit-lt t0 = lit< tt
 value-bit-lt t1 = lit< tt
 value-bit-lt t* = lit< tt
 
--- ---- An operation on the four words of two strings
+pub zero-bit-lt : (t : Trit) → zero-bit t < 2
+zero-bit-lt t0 = lit< tt
+zero-bit-lt t1 = lit< tt
+zero-bit-lt t* = lit< tt
 
+-- ---- An operation on the zeros and the values of two strings
+
+-- of zeros, value, zeros and value
 abbrev pub Op : Type 0
 Op = ℕ → ℕ → ℕ → ℕ → ℕ
 
 -- at two strings
 abbrev pub on : Op → Trits → Trits → ℕ
-on F s r = F (care-of s) (value-of s) (care-of r) (value-of r)
+on F s r = F (zeros-of s) (value-of s) (zeros-of r) (value-of r)
 
 -- at two positions
 abbrev pub on-digit : Op → Trit → Trit → ℕ
-on-digit F t u = F (care-bit t) (value-bit t) (care-bit u) (value-bit u)
+on-digit F t u = F (zero-bit t) (value-bit t) (zero-bit u) (value-bit u)
 
 -- it works on the last digit and on the rest apart, and keeps a digit a digit
 pub record Digitwise (F : Op) : Type 0 where
@@ -40,14 +49,18 @@ pub record Digitwise (F : Op) : Type 0 where
       → F (a * 2 + p) (b * 2 + q) (c * 2 + r) (d * 2 + s) ≡ F a b c d * 2 + F p q r s
   pub bound : (p q r s : ℕ) → p < 2 → q < 2 → r < 2 → s < 2 → F p q r s < 2
 
-pub care-l : Digitwise (λ p q r s. p)
-care-l = record { step = λ a b c d p q r s hp hq hr hs. refl; bound = λ p q r s hp hq hr hs. hp }
+-- 0, and each of the four
+pub nothing : Digitwise (λ p q r s. 0)
+nothing = record { step = λ a b c d p q r s hp hq hr hs. refl; bound = λ p q r s hp hq hr hs. lit< tt }
+
+pub zero-l : Digitwise (λ p q r s. p)
+zero-l = record { step = λ a b c d p q r s hp hq hr hs. refl; bound = λ p q r s hp hq hr hs. hp }
 
 pub value-l : Digitwise (λ p q r s. q)
 value-l = record { step = λ a b c d p q r s hp hq hr hs. refl; bound = λ p q r s hp hq hr hs. hq }
 
-pub care-r : Digitwise (λ p q r s. r)
-care-r = record { step = λ a b c d p q r s hp hq hr hs. refl; bound = λ p q r s hp hq hr hs. hr }
+pub zero-r : Digitwise (λ p q r s. r)
+zero-r = record { step = λ a b c d p q r s hp hq hr hs. refl; bound = λ p q r s hp hq hr hs. hr }
 
 pub value-r : Digitwise (λ p q r s. s)
 value-r = record { step = λ a b c d p q r s hp hq hr hs. refl; bound = λ p q r s hp hq hr hs. hs }
@@ -63,6 +76,7 @@ module _ (bit : ℕ → ℕ → ℕ) (block : (a b r s : ℕ) → r < 2 → s < 
     bound = λ p q r s hp hq hr hs. small (F p q r s) (G p q r s) (f .bound p q r s hp hq hr hs) (g .bound p q r s hp hq hr hs);
   }
 
+-- and the three bit operations
 pub and-of : (F G : Op) → Digitwise F → Digitwise G → Digitwise (λ p q r s. bitAnd (F p q r s) (G p q r s))
 and-of = combined bitAnd (and-block 1) (and-lt 1)
 
@@ -72,16 +86,31 @@ or-of = combined bitOr (or-block 1) (or-lt 1)
 pub xor-of : (F G : Op) → Digitwise F → Digitwise G → Digitwise (λ p q r s. bitXor (F p q r s) (G p q r s))
 xor-of = combined bitXor (xor-block 1) (xor-lt 1)
 
+-- an operation at one position more
 pub on-cons : (F : Op) → Digitwise F → (t u : Trit) (s r : Trits) → on F (t ∷ s) (u ∷ r) ≡ on F s r * 2 + on-digit F t u
-unfolding care-of value-of
+unfolding zeros-of value-of
 on-cons F f t u s r =
-    f .step (care-of s) (value-of s) (care-of r) (value-of r) (care-bit t) (value-bit t) (care-bit u) (value-bit u)
-    (care-bit-lt t) (value-bit-lt t) (care-bit-lt u) (value-bit-lt u)
+    f .step (zeros-of s) (value-of s) (zeros-of r) (value-of r) (zero-bit t) (value-bit t) (zero-bit u) (value-bit u)
+    (zero-bit-lt t) (value-bit-lt t) (zero-bit-lt u) (value-bit-lt u)
 
+-- its digit is a digit
 pub on-digit-lt : (F : Op) → Digitwise F → (t u : Trit) → on-digit F t u < 2
 on-digit-lt F f t u =
-    f .bound (care-bit t) (value-bit t) (care-bit u) (value-bit u) (care-bit-lt t) (value-bit-lt t) (care-bit-lt u)
+    f .bound (zero-bit t) (value-bit t) (zero-bit u) (value-bit u) (zero-bit-lt t) (value-bit-lt t) (zero-bit-lt u)
     (value-bit-lt u)
+
+-- two numbers by their last digits and the rests
+pub put : {a b c d : ℕ} → a ≡ b → c ≡ d → a * 2 + c ≡ b * 2 + d
+put p q = ap₂ (λ (x y : ℕ). x * 2 + y) p q
+
+-- a claim about two strings of one length, position by position
+pub paired : (P : Trits → Trits → Type 0) → P [] []
+    → ((t u : Trit) (s r : Trits) → length s ≡ length r → P s r → P (t ∷ s) (u ∷ r))
+    → (s r : Trits) → length s ≡ length r → P s r
+paired P nil cons [] [] e = nil
+paired P nil cons [] (u ∷ r) e = absurd (suc-ne-zero _ (sym e))
+paired P nil cons (t ∷ s) [] e = absurd (suc-ne-zero _ e)
+paired P nil cons (t ∷ s) (u ∷ r) e = cons t u s r (suc-inj e) (paired P nil cons s r (suc-inj e))
 
 -- a claim about two positions, by its nine cases
 pub nine : (P : Trit → Trit → Type 0) → P t0 t0 → P t0 t1 → P t0 t* → P t1 t0 → P t1 t1 → P t1 t* → P t* t0 → P t* t1 → P t* t*
@@ -95,6 +124,13 @@ nine P a b c d e f g h i t1 t* = f
 nine P a b c d e f g h i t* t0 = g
 nine P a b c d e f g h i t* t1 = h
 nine P a b c d e f g h i t* t* = i
+
+-- a case that can't be
+pub never : {A : Type 0} → false ≡ true → A
+never h = absurd (false≢true h)
+
+pub never′ : {A : Type 0} → true ≡ false → A
+never′ h = absurd (false≢true (sym h))
 
 -- ---- Equal numbers
 
@@ -111,6 +147,7 @@ eqb-block k x y d e hd he = go (eqb d e) (eqb x y) refl refl
         ne-eqb (x * 2 ^ k + d) (y * 2 ^ k + e)
         (λ h. eqb-false d e p (sym (low x k hd) ∙ ap (λ (n : ℕ). n % 2 ^ k) h ∙ low y k he))
 
+-- and so of the last digit
 pub eqb-digit : (x y d e : ℕ) → d < 2 → e < 2 → eqb (x * 2 + d) (y * 2 + e) ≡ (eqb d e && eqb x y)
 eqb-digit = eqb-block 1
 

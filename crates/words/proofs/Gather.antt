@@ -1,5 +1,5 @@
 -- Bits at chosen positions moved together: the loop that does it, and the cut of a string. Assumes nothing.
-use mathlib.Core.Path.{_≡_, refl, sym, ap, _∙_, subst}
+use mathlib.Core.Path.{_≡_, refl, sym, ap, ap₂, _∙_, subst}
 use mathlib.Core.Bool.{Bool, true, false, cond}
 use mathlib.Core.List.{[], _∷_}
 use Prim.Native.Nat.{ℕ, zero, suc, _+_, _-_, _*_, _/_, _%_, _^_, _<_, _≤_}
@@ -13,10 +13,10 @@ use lib.Dec.{eqb, lit<}
 use lib.ListN.{length}
 use lib.Pow.{shl-exact, shl-lt, shr-shr}
 use Rattle.model.specs.Groups.{Bits, cut}
-use Rattle.model.specs.Strings.{Trit, Trits}
-use Rattle.words.specs.Words.{care-bit, value-bit, care-of, value-of, word, set-word, gather, cut-words}
-use Rattle.words.proofs.Digits.{care-bit-lt, value-bit-lt}
+use Rattle.model.specs.Strings.{Trits}
+use Rattle.words.specs.Words.{word, halves, set-word, gather, cut-word}
 use Rattle.words.proofs.Codec.{bit-lt, bit-back}
+use Rattle.words.proofs.Halves.{Half, zeros-part, value-part, high-word, low-word}
 
 -- ---- The loop: `out` holds the chosen bits among the lowest i, `at` of them
 
@@ -25,6 +25,7 @@ pub record Gathering (keep w out at i : ℕ) : Type 0 where
   pub few : at ≤ i
   pub whole : gather 32 keep w ≡ gather (32 - i) (keep / 2 ^ i) (w / 2 ^ i) * 2 ^ at + out
 
+-- before the first position
 pub gathering-start : (keep w : ℕ) → Gathering keep w 0 0 0
 gathering-start keep w = record {
   small = lit< tt;
@@ -33,6 +34,7 @@ gathering-start keep w = record {
 }
 
 module _ (keep w out at i : ℕ) (g : Gathering keep w out at i) (h : i < 32) where
+  -- what the later positions give
   rest : ℕ
   rest = gather (32 - (i + 1)) (keep / 2 ^ (i + 1)) (w / 2 ^ (i + 1))
 
@@ -43,6 +45,7 @@ module _ (keep w out at i : ℕ) (g : Gathering keep w out at i) (h : i < 32) wh
       let e : 32 - i ≡ suc (32 - (i + 1)) = omega arith in
       rw (e, shr-shr keep i 1, shr-shr w i 1)
 
+  -- after a position that is chosen
   pub gathering-kept : keep / 2 ^ i % 2 ≡ 1 → Gathering keep w (bitOr out ((w / 2 ^ i % 2 * 2 ^ at) % 2 ^ 32)) (at + 1) (i + 1)
   unfolding rest
   gathering-kept k =
@@ -66,6 +69,7 @@ module _ (keep w out at i : ℕ) (g : Gathering keep w out at i) (h : i < 32) wh
             ∙ rw (sh, o, p, add-mul (rest * 2) (w / 2 ^ i % 2) (2 ^ at), mul-assoc rest 2 (2 ^ at)) (omega arith);
       }
 
+  -- after one that is not
   pub gathering-left : ¬ (keep / 2 ^ i % 2 ≡ 1) → Gathering keep w out at (i + 1)
   unfolding rest
   gathering-left k = record {
@@ -77,6 +81,7 @@ module _ (keep w out at i : ℕ) (g : Gathering keep w out at i) (h : i < 32) wh
       left-rest : gather (32 - i) (keep / 2 ^ i) (w / 2 ^ i) ≡ rest
       left-rest = opened ∙ rw (ne-eqb (keep / 2 ^ i % 2) 1 k)
 
+-- after the last
 pub gathering-end : (keep w out at : ℕ) → Gathering keep w out at 32 → out ≡ gather 32 keep w
 unfolding gather
 gathering-end keep w out at g = sym (g .whole ∙ omega arith)
@@ -89,40 +94,38 @@ unfolding gather
 gather-none zero w = refl
 gather-none (suc n) w = gather-none n (w / 2)
 
--- a word of the cut: `word-of` is the care or the value word, and `bit` its digit
-module _ (word-of : Trits → ℕ) (bit : Trit → ℕ) (nil : word-of [] ≡ 0)
-    (cons : (t : Trit) (s : Trits) → word-of (t ∷ s) ≡ word-of s * 2 + bit t)
-    (small : (t : Trit) → bit t < 2) where
+module _ (h : Half) where
+  -- one half of the cut
   gather-cut : (n : ℕ) (k : Bits) (s : Trits) → length k ≡ length s → length s ≤ n
-      → gather n (set-word k) (word-of s) ≡ word-of (cut k s)
+      → gather n (set-word k) (h .of s) ≡ h .of (cut k s)
   unfolding set-word cut gather
-  gather-cut n [] [] e h = gather-none n (word-of []) ∙ sym nil
-  gather-cut n [] (t ∷ s) e h = absurd (suc-ne-zero _ (sym e))
-  gather-cut n (b ∷ k) [] e h = absurd (suc-ne-zero _ e)
-  gather-cut zero (b ∷ k) (t ∷ s) e h = absurd (not-suc-le-zero h)
-  gather-cut (suc n) (b ∷ k) (t ∷ s) e h =
-      ap (gather (suc n) (set-word (b ∷ k))) (cons t s) ∙ step ∙ go b (gather-cut n k s (suc-inj e) (le-of-suc-le-suc h))
+  gather-cut n [] [] e l = gather-none n (h .of []) ∙ sym (h .nil)
+  gather-cut n [] (t ∷ s) e l = absurd (suc-ne-zero _ (sym e))
+  gather-cut n (b ∷ k) [] e l = absurd (suc-ne-zero _ e)
+  gather-cut zero (b ∷ k) (t ∷ s) e l = absurd (not-suc-le-zero l)
+  gather-cut (suc n) (b ∷ k) (t ∷ s) e l =
+      ap (gather (suc n) (set-word (b ∷ k))) (h .cons t s) ∙ step ∙ go b (gather-cut n k s (suc-inj e) (le-of-suc-le-suc l))
     where
       inner : ℕ
-      inner = gather n (set-word k) (word-of s)
+      inner = gather n (set-word k) (h .of s)
 
-      step : gather (suc n) (set-word k * 2 + cond b 1 0) (word-of s * 2 + bit t) ≡ cond b (inner * 2 + bit t) inner
+      step : gather (suc n) (set-word k * 2 + cond b 1 0) (h .of s * 2 + h .bit t) ≡ cond b (inner * 2 + h .bit t) inner
       step =
           rw (
             digits-mod (set-word k) (bit-lt b),
             digits-div (set-word k) (bit-lt b),
-            digits-mod (word-of s) (small t),
-            digits-div (word-of s) (small t),
+            digits-mod (h .of s) (h .small t),
+            digits-div (h .of s) (h .small t),
             bit-back b,
           )
 
-      go : (b : Bool) → inner ≡ word-of (cut k s) → cond b (inner * 2 + bit t) inner ≡ word-of (cut (b ∷ k) (t ∷ s))
-      go true p = ap (λ (x : ℕ). x * 2 + bit t) p ∙ sym (cons t (cut k s))
+      go : (b : Bool) → inner ≡ h .of (cut k s) → cond b (inner * 2 + h .bit t) inner ≡ h .of (cut (b ∷ k) (t ∷ s))
+      go true p = ap (λ (x : ℕ). x * 2 + h .bit t) p ∙ sym (h .cons t (cut k s))
       go false p = p
 
-pub cut-word : (k : Bits) (s : Trits) → length k ≡ length s → length s ≤ 32 → cut-words (set-word k) (word s) ≡ word (cut k s)
-unfolding cut-words care-of value-of
-cut-word k s e h = λ i. record {
-  care = gather-cut care-of care-bit refl (λ t s. refl) care-bit-lt 32 k s e h i;
-  value = gather-cut value-of value-bit refl (λ t s. refl) value-bit-lt 32 k s e h i;
-}
+-- both halves
+pub word-cut : (k : Bits) (s : Trits) → length k ≡ length s → length s ≤ 32 → cut-word (set-word k) (word s) ≡ word (cut k s)
+unfolding cut-word word
+word-cut k s e l =
+    ap₂ halves (ap (gather 32 (set-word k)) (high-word s l) ∙ gather-cut zeros-part 32 k s e l)
+    (ap (gather 32 (set-word k)) (low-word s l) ∙ gather-cut value-part 32 k s e l)

@@ -1,7 +1,7 @@
 pub mod Digits
+pub mod Codec
+pub mod Halves
 pub mod Words
 pub mod Positions
-pub mod Codec
-pub mod Keys
 pub mod Gather
 pub mod OpeningLaws

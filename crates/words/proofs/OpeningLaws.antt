@@ -1,36 +1,44 @@
--- The positions that one string opens in another: the words that hold them, and what each position says. Assumes nothing.
+-- The bits that one string's word lacks of another's: how many they are, and the positions that are opened. Assumes nothing.
 use mathlib.Core.Path.{_≡_, refl, sym, ap, ap₂, _∙_}
 use mathlib.Core.Bool.{Bool, true, false, _&&_, cond}
 use mathlib.Core.List.{[], _∷_, map}
-use mathlib.Core.Logic.{_⊎_, inl, inr, ⊎-elim}
-use Prim.Native.Nat.{ℕ, zero, suc, _+_, _-_, _*_, _<_}
-use native.Mathlib.Nat.{suc-inj, suc-ne-zero}
+use Prim.Native.Nat.{ℕ, zero, suc, _+_, _-_, _*_, _/_, _%_, _^_, _<_, _≤_}
+use native.Mathlib.Nat.{suc-inj, suc-ne-zero, pow-suc}
 use native.Mathlib.Omega.{arith}
-use borrow.Author.Tests.{eq-eqb, ne-eqb, eqb-true, eqb-false}
-use lib.Bits.{bitAnd, bitOr, bitXor, and-block, and-self, and-zero-l}
-use lib.Dec.{eqb, lit<}
+use borrow.Author.Tests.{eq-eqb, ne-eqb, eqb-true, eqb-false, ltb-true, ltb-false}
+use lib.Bits.{bitAnd, bitOr, bitXor, and-block, xor-block, and-self, and-zero-l, and-lt, xor-lt, and-le-l}
+use lib.Count.{ones, ones-step, ones-cat}
+use lib.Dec.{eqb, ltb, lit<, eqb·suc-zero}
 use lib.ListN.{length, getD}
+use lib.Pow as pow
 use Rattle.model.specs.Groups.{Bits}
 use Rattle.model.specs.Strings.{Trit, Trits, fixed-digit, flip, subsumes-digit, subsumes, fixed, flipped}
-use Rattle.words.specs.declared.Entry.{Entry}
-use Rattle.words.specs.Words.{care-bit, care-of, value-of, word, set-word, openings, lacks-word, openings-of}
-use Rattle.words.specs.Words.{subsumes-words}
-use Rattle.words.proofs.Digits.{Op, on, on-digit, Digitwise, care-l, value-l, care-r, value-r, and-of, or-of, xor-of}
-use Rattle.words.proofs.Digits.{on-cons}
-use Rattle.words.proofs.Digits.{on-digit-lt, nine, care-bit-lt}
-use Rattle.words.proofs.Words.{one-test, subsumes-word}
+use Rattle.words.specs.Words.{value-bit, zero-bit, value-of, zeros-of, word, halves, set-word, openings, lack-count}
+use Rattle.words.specs.Words.{near, fixed-word, lacks-word, lone, openings-of}
+use Rattle.words.proofs.Digits.{Op, on, on-digit, Digitwise, zero-l, value-l, zero-r, value-r, and-of, or-of, xor-of}
+use Rattle.words.proofs.Digits.{on-cons, on-digit-lt, put, paired, nine, never, never′}
+use Rattle.words.proofs.Halves.{value-half, zeros-half, cares-or, care-word}
 
 -- ---- What each position says
 
+-- no position
 none : Bits → Bits
 none g = map (λ (b : Bool). false) g
 
+-- has none
 none-at : (g : Bits) (i : ℕ) → getD (none g) i false ≡ false
 unfolding none
 none-at [] i = refl
 none-at (b ∷ g) zero = refl
 none-at (b ∷ g) (suc i) = none-at g i
 
+-- and no bit
+none-word : (g : Bits) → set-word (none g) ≡ 0
+unfolding none set-word
+none-word [] = refl
+none-word (b ∷ g) = rw (none-word g)
+
+-- a position is opened where y, flipped there, is subsumed by e
 pub openings-at : (e y : Trits) (i : ℕ) → length e ≡ length y
     → getD (openings e y) i false ≡ (fixed i y && subsumes e (flipped i y))
 unfolding openings fixed flipped subsumes none
@@ -53,133 +61,25 @@ openings-at (t ∷ e) (u ∷ y) (suc i) n = go (subsumes-digit t u) (openings-at
     go true p = p
     go false p = none-at (openings e y) i ∙ false-and (fixed i y)
 
--- ---- The words
+-- ---- A number has at most one 1 exactly where nothing is left of it without its lowest
 
-lacks : Op
-lacks p q r s = bitOr (bitXor (bitAnd p r) p) (bitXor (bitAnd s p) q)
+-- a number without a 1 is 0
+ones-none : (k n : ℕ) → n < 2 ^ k → ones n ≡ 0 → n ≡ 0
+ones-none zero n h e = omega arith
+ones-none (suc k) n h e =
+    let s = ones-step n in
+    let r : n / 2 ≡ 0 = ones-none k (n / 2) (omega (arith, pow-suc 2 k)) (omega arith) in
+    omega arith
 
-lacks-digits : Digitwise lacks
-unfolding lacks
-lacks-digits = or-of _ _ (xor-of _ _ (and-of _ _ care-l care-r) care-l) (xor-of _ _ (and-of _ _ value-r care-l) value-l)
+-- the count of a number by its last digit
+ones-even : (h : ℕ) → ones (h * 2 + 0) ≡ ones h
+ones-even h = ones-cat 1 h 0 (lit< tt) ∙ unfold ones in omega arith
 
-lacks-cons : (t u : Trit) (e y : Trits)
-    → lacks-word (word (t ∷ e)) (word (u ∷ y)) ≡ lacks-word (word e) (word y) * 2 + on-digit lacks t u
-unfolding lacks-word lacks
-lacks-cons t u e y = on-cons lacks lacks-digits t u e y
+ones-double : (h : ℕ) → ones (h * 2) ≡ ones h
+ones-double h = ap ones (omega arith) ∙ ones-even h
 
--- e lacks nothing of y exactly where it subsumes y
-lacks-subsumes : (e y : Trits) → length e ≡ length y → eqb (lacks-word (word e) (word y)) 0 ≡ subsumes e y
-unfolding lacks-word subsumes-words
-lacks-subsumes e y n = rw one-test (subsumes-word e y n)
-
-none-word : (g : Bits) → set-word (none g) ≡ 0
-unfolding none set-word
-none-word [] = refl
-none-word (b ∷ g) = rw (none-word g)
-
--- a digit that is lacking, and one that is not
-lack-one : (t u : Trit) → on-digit lacks t u ≡ 1 → subsumes-digit t u ≡ false
-unfolding lacks
-lack-one t u =
-    nine (λ t u. on-digit lacks t u ≡ 1 → subsumes-digit t u ≡ false) clash (λ e. refl) (λ e. refl) (λ e. refl) clash
-    (λ e. refl) clash clash clash t u
-  where
-    clash : {b : Bool} → _≡_ {A = ℕ} 0 1 → b ≡ false
-    clash e = absurd (omega arith)
-
-lack-zero : (t u : Trit) → on-digit lacks t u ≡ 0 → subsumes-digit t u ≡ true
-unfolding lacks
-lack-zero t u =
-    nine (λ t u. on-digit lacks t u ≡ 0 → subsumes-digit t u ≡ true) (λ e. refl) clash clash clash (λ e. refl) clash (λ e. refl)
-    (λ e. refl) (λ e. refl) t u
-  where
-    clash : {b : Bool} → _≡_ {A = ℕ} 1 0 → b ≡ true
-    clash e = absurd (omega arith)
-
--- ---- One position more
-
-abbrev L : Trits → Trits → ℕ
-L e y = lacks-word (word e) (word y)
-
-subsumes-none : (e y : Trits) → length e ≡ length y → L e y ≡ 0 → subsumes e y ≡ true
-subsumes-none e y n z = sym (lacks-subsumes e y n) ∙ eq-eqb (L e y) 0 z
-
-subsumes-some : (e y : Trits) → length e ≡ length y → ¬ (L e y ≡ 0) → subsumes e y ≡ false
-subsumes-some e y n z = sym (lacks-subsumes e y n) ∙ ne-eqb (L e y) 0 z
-
--- the digit of the first position, where b says whether the others are subsumed
-head-digit : Trit → Trit → Bool → ℕ
-head-digit t u b = cond (fixed-digit u && subsumes-digit t (flip u) && b) 1 0
-
-head-none : (t u : Trit) → head-digit t u false ≡ 0
-unfolding head-digit
-head-none t u = go (fixed-digit u) (subsumes-digit t (flip u))
-  where
-    go : (a b : Bool) → _≡_ {A = ℕ} (cond (a && b && false) 1 0) 0
-    go true true = refl
-    go true false = refl
-    go false b = refl
-
--- the word of the openings, by the first position and the others
-module _ (t u : Trit) (e y : Trits) where
-  openings-kept : subsumes-digit t u ≡ true → (b : Bool) → subsumes e y ≡ b
-      → set-word (openings (t ∷ e) (u ∷ y)) ≡ set-word (openings e y) * 2 + head-digit t u b
-  unfolding openings set-word head-digit
-  openings-kept k b h = rw (k, h)
-
-  openings-lost : subsumes-digit t u ≡ false → (b : Bool) → subsumes e y ≡ b
-      → set-word (openings (t ∷ e) (u ∷ y)) ≡ 0 * 2 + head-digit t u b
-  unfolding openings set-word head-digit none
-  openings-lost k b h = rw (k, h) (ap (λ (x : ℕ). x * 2 + head-digit t u b) (none-word (openings e y)))
-
--- the digit of the first position, where it is not lacking and where it is
-open-digit : (t u : Trit) → on-digit lacks t u ≡ 0 → bitXor (care-bit u) (bitAnd (care-bit u) (care-bit t)) ≡ head-digit t u true
-unfolding lacks head-digit
-open-digit t u =
-    nine (λ t u. on-digit lacks t u ≡ 0 → bitXor (care-bit u) (bitAnd (care-bit u) (care-bit t)) ≡ head-digit t u true)
-    (λ e. refl) clash clash clash (λ e. refl) clash (λ e. refl) (λ e. refl) (λ e. refl) t u
-  where
-    clash : {m n : ℕ} → _≡_ {A = ℕ} 1 0 → m ≡ n
-    clash e = absurd (omega arith)
-
-lack-digit : (t u : Trit) → on-digit lacks t u ≡ 1 → bitAnd 1 (care-bit u) ≡ head-digit t u true
-unfolding lacks head-digit
-lack-digit t u =
-    nine (λ t u. on-digit lacks t u ≡ 1 → bitAnd 1 (care-bit u) ≡ head-digit t u true) clash (λ e. refl) (λ e. refl)
-    (λ e. refl) clash (λ e. refl) clash clash
-    clash t u
-  where
-    clash : {m n : ℕ} → _≡_ {A = ℕ} 0 1 → m ≡ n
-    clash e = absurd (omega arith)
-
--- ---- No position lacks
-
-opened : Op
-opened p q r s = bitXor r (bitAnd r p)
-
-opened-digits : Digitwise opened
-unfolding opened
-opened-digits = xor-of _ _ care-r (and-of _ _ care-r care-l)
-
-open-all : (e y : Trits) → length e ≡ length y → L e y ≡ 0 → on opened e y ≡ set-word (openings e y)
-unfolding opened
-open-all [] [] n z = unfold care-of openings set-word in refl
-open-all [] (u ∷ y) n z = absurd (suc-ne-zero _ (sym n))
-open-all (t ∷ e) [] n z = absurd (suc-ne-zero _ n)
-open-all (t ∷ e) (u ∷ y) n z =
-    let s : L e y * 2 + on-digit lacks t u ≡ 0 = sym (lacks-cons t u e y) ∙ z in
-    let d : on-digit lacks t u ≡ 0 = omega arith in
-    let r : L e y ≡ 0 = omega arith in
-    on-cons opened opened-digits t u e y
-    ∙ ap₂ (λ (a b : ℕ). a * 2 + b) (open-all e y (suc-inj n) r) (open-digit t u d)
-    ∙ sym (openings-kept t u e y (lack-zero t u d) true (subsumes-none e y (suc-inj n) r))
-
--- ---- One position lacks, or more than one
-
-digit-cases : (d : ℕ) → d < 2 → (d ≡ 0) ⊎ (d ≡ 1)
-digit-cases zero h = inl refl
-digit-cases (suc zero) h = inr refl
-digit-cases (suc (suc d)) h = absurd (omega arith)
+ones-odd : (h : ℕ) → ones (h * 2 + 1) ≡ suc (ones h)
+ones-odd h = ones-cat 1 h 1 (lit< tt) ∙ unfold ones in omega arith
 
 -- a number without its lowest 1, by its last digit
 pub low-one : (w : ℕ) → bitAnd (w * 2 + 1) (w * 2 + 1 - 1) ≡ w * 2
@@ -192,101 +92,322 @@ low-zero w z =
     let m : w * 2 + 0 - 1 ≡ (w - 1) * 2 + 1 = omega arith in
     rw m (and-block 1 w (w - 1) 0 1 (lit< tt) (lit< tt) ∙ omega arith)
 
--- the last digit of a number, and the rest of it
-module _ (t u : Trit) (e y : Trits) where
-  abbrev d : ℕ
-  d = on-digit lacks t u
-
-  whole-zero : d ≡ 0 → L (t ∷ e) (u ∷ y) ≡ L e y * 2 + 0
-  whole-zero h = lacks-cons t u e y ∙ ap (λ (x : ℕ). L e y * 2 + x) h
-
-  whole-one : d ≡ 1 → L (t ∷ e) (u ∷ y) ≡ L e y * 2 + 1
-  whole-one h = lacks-cons t u e y ∙ ap (λ (x : ℕ). L e y * 2 + x) h
-
-  cases : (d ≡ 0) ⊎ (d ≡ 1)
-  cases = digit-cases d (on-digit-lt lacks lacks-digits t u)
-
--- what is left of a number without its lowest 1 decides as the rest of the number does
-rest-one : (t u : Trit) (e y : Trits) → on-digit lacks t u ≡ 1 → bitAnd (L (t ∷ e) (u ∷ y)) (L (t ∷ e) (u ∷ y) - 1) ≡ L e y * 2
-rest-one t u e y h = ap (λ (x : ℕ). bitAnd x (x - 1)) (whole-one t u e y h) ∙ low-one (L e y)
-
-rest-zero : (t u : Trit) (e y : Trits) → on-digit lacks t u ≡ 0 → ¬ (L e y ≡ 0)
-    → bitAnd (L (t ∷ e) (u ∷ y)) (L (t ∷ e) (u ∷ y) - 1) ≡ bitAnd (L e y) (L e y - 1) * 2
-rest-zero t u e y h z = ap (λ (x : ℕ). bitAnd x (x - 1)) (whole-zero t u e y h) ∙ low-zero (L e y) z
-
-nonzero-rest : (t u : Trit) (e y : Trits) → on-digit lacks t u ≡ 0 → ¬ (L (t ∷ e) (u ∷ y) ≡ 0) → ¬ (L e y ≡ 0)
-nonzero-rest t u e y h z r = z (whole-zero t u e y h ∙ rw r)
-
-open-one : (e y : Trits) → length e ≡ length y → ¬ (L e y ≡ 0) → bitAnd (L e y) (L e y - 1) ≡ 0
-    → bitAnd (L e y) (care-of y) ≡ set-word (openings e y)
-unfolding care-of
-open-one [] [] n z o = absurd (z (unfold lacks-word care-of value-of in refl))
-open-one [] (u ∷ y) n z o = absurd (suc-ne-zero _ (sym n))
-open-one (t ∷ e) [] n z o = absurd (suc-ne-zero _ n)
-open-one (t ∷ e) (u ∷ y) n z o = ⊎-elim (zero-case (open-one e y (suc-inj n))) one-case (cases t u e y)
+-- it has one 1 less
+less-one : (k n : ℕ) → n < 2 ^ k → ones (bitAnd n (n - 1)) ≡ ones n - 1
+less-one zero n h = let z : n ≡ 0 = omega arith in rw z (unfold ones in refl)
+less-one (suc k) n h =
+    go (n % 2) (n / 2) (omega arith) (omega arith) (less-one k (n / 2) (omega (arith, pow-suc 2 k)))
   where
-    one-case : on-digit lacks t u ≡ 1
-        → bitAnd (L (t ∷ e) (u ∷ y)) (care-of y * 2 + care-bit u) ≡ set-word (openings (t ∷ e) (u ∷ y))
-    one-case h =
-        let r : L e y ≡ 0 = let k : L e y * 2 ≡ 0 = sym (rest-one t u e y h) ∙ o in omega arith in
-        rw (whole-one t u e y h, r)
-        (and-block 1 0 (care-of y) 1 (care-bit u) (lit< tt) (care-bit-lt u)
-        ∙ ap₂ (λ (a b : ℕ). a * 2 + b) (and-zero-l (care-of y)) (lack-digit t u h)
-        ∙ sym (openings-lost t u e y (lack-one t u h) true (subsumes-none e y (suc-inj n) r)))
+    even : (w : ℕ) (b : Bool) → eqb w 0 ≡ b → ones (bitAnd w (w - 1)) ≡ ones w - 1
+        → ones (bitAnd (w * 2 + 0) (w * 2 + 0 - 1)) ≡ ones (w * 2 + 0) - 1
+    even w true q ih = rw (eqb-true w 0 q) (unfold ones in refl)
+    even w false q ih = rw (low-zero w (eqb-false w 0 q), ones-double (bitAnd w (w - 1)), ones-even w) ih
 
-    zero-case : (¬ (L e y ≡ 0) → bitAnd (L e y) (L e y - 1) ≡ 0 → bitAnd (L e y) (care-of y) ≡ set-word (openings e y))
-        → on-digit lacks t u ≡ 0 → bitAnd (L (t ∷ e) (u ∷ y)) (care-of y * 2 + care-bit u) ≡ set-word (openings (t ∷ e) (u ∷ y))
-    zero-case ih h =
-        let r = nonzero-rest t u e y h z in
-        let k : bitAnd (L e y) (L e y - 1) * 2 ≡ 0 = sym (rest-zero t u e y h r) ∙ o in
-        rw (whole-zero t u e y h)
-        (and-block 1 (L e y) (care-of y) 0 (care-bit u) (lit< tt) (care-bit-lt u)
-        ∙ ap₂ (λ (a b : ℕ). a * 2 + b) (ih r (omega arith)) (sym (head-none t u))
-        ∙ sym (openings-kept t u e y (lack-zero t u h) false (subsumes-some e y (suc-inj n) r)))
+    go : (d w : ℕ) → d < 2 → n ≡ w * 2 + d → ones (bitAnd w (w - 1)) ≡ ones w - 1 → ones (bitAnd n (n - 1)) ≡ ones n - 1
+    go zero w l e ih = rw e (even w (eqb w 0) refl ih)
+    go (suc zero) w l e ih = rw (e, low-one w, ones-double w, ones-odd w) (omega arith)
+    go (suc (suc d)) w l e ih = absurd (omega arith)
 
-open-none : (e y : Trits) → length e ≡ length y → ¬ (L e y ≡ 0) → ¬ (bitAnd (L e y) (L e y - 1) ≡ 0) → 0 ≡ set-word (openings e y)
-open-none [] [] n z o = absurd (z (unfold lacks-word care-of value-of in refl))
-open-none [] (u ∷ y) n z o = absurd (suc-ne-zero _ (sym n))
-open-none (t ∷ e) [] n z o = absurd (suc-ne-zero _ n)
-open-none (t ∷ e) (u ∷ y) n z o = ⊎-elim (zero-case (open-none e y (suc-inj n))) one-case (cases t u e y)
+-- nothing is left exactly where there are fewer than two
+pub lone-ones : (k w : ℕ) → w < 2 ^ k → lone w ≡ ltb (ones w) 2
+unfolding lone
+lone-ones k w h = go (eqb (bitAnd w (w - 1)) 0) (ltb (ones w) 2) refl refl
   where
-    one-case : on-digit lacks t u ≡ 1 → 0 ≡ set-word (openings (t ∷ e) (u ∷ y))
-    one-case h =
-        let r : ¬ (L e y ≡ 0) = λ k. o (rest-one t u e y h ∙ rw k) in
-        sym (openings-lost t u e y (lack-one t u h) false (subsumes-some e y (suc-inj n) r) ∙ rw (head-none t u))
+    rest : ℕ
+    rest = bitAnd w (w - 1)
 
-    zero-case : (¬ (L e y ≡ 0) → ¬ (bitAnd (L e y) (L e y - 1) ≡ 0) → 0 ≡ set-word (openings e y)) → on-digit lacks t u ≡ 0
+    go : (b c : Bool) → eqb rest 0 ≡ b → ltb (ones w) 2 ≡ c → b ≡ c
+    go true true p q = refl
+    go false false p q = refl
+    go true false p q =
+        let z : ones rest ≡ 0 = rw (eqb-true rest 0 p) (unfold ones in refl) in
+        absurd (omega (arith, less-one k w h, ltb-false (ones w) 2 q))
+    go false true p q =
+        let z : ones rest ≡ 0 = omega (arith, less-one k w h, ltb-true (ones w) 2 q) in
+        absurd (eqb-false rest 0 p (ones-none k rest (omega (arith, and-le-l w (w - 1))) z))
+
+-- ---- The bits that lack, in each half
+
+-- zeros of the one that are not zeros of the other
+lack-zeros : Digitwise (λ p q r s. bitXor (bitAnd p r) p)
+lack-zeros = xor-of _ _ (and-of _ _ zero-l zero-r) zero-l
+
+-- values of the one that are not values of the other
+lack-values : Digitwise (λ p q r s. bitXor (bitAnd q s) q)
+lack-values = xor-of _ _ (and-of _ _ value-l value-r) value-l
+
+-- the zeros that lack
+abbrev Z : Trits → Trits → ℕ
+Z e y = bitXor (bitAnd (zeros-of e) (zeros-of y)) (zeros-of e)
+
+-- the values that lack
+abbrev O : Trits → Trits → ℕ
+O e y = bitXor (bitAnd (value-of e) (value-of y)) (value-of e)
+
+-- the count of an operation at one position more
+ones-on : (F : Op) → Digitwise F → (t u : Trit) (e y : Trits)
+    → ones (on F (t ∷ e) (u ∷ y)) ≡ ones (on F e y) + ones (on-digit F t u)
+ones-on F f t u e y = ap ones (on-cons F f t u e y) ∙ ones-cat 1 (on F e y) (on-digit F t u) (on-digit-lt F f t u)
+
+-- there are as many as positions that lack
+lack-ones : (e y : Trits) → length e ≡ length y → ones (Z e y) + ones (O e y) ≡ lack-count e y
+unfolding lack-count ones
+lack-ones =
+    paired _ (unfold zeros-of value-of in refl)
+    (λ t u e y n ih.
+    ap₂ _+_ (ones-on _ lack-zeros t u e y) (ones-on _ lack-values t u e y)
+    ∙ go (subsumes-digit t u) (ones (Z e y)) (ones (O e y)) _ _ (lack-count e y) ih (digit t u))
+  where
+    digit : (t u : Trit)
+        → ones (bitXor (bitAnd (zero-bit t) (zero-bit u)) (zero-bit t))
+        + ones (bitXor (bitAnd (value-bit t) (value-bit u)) (value-bit t))
+        ≡ cond (subsumes-digit t u) 0 1
+    digit = nine _ refl refl refl refl refl refl refl refl refl
+
+    go : (b : Bool) (p q c d n : ℕ) → p + q ≡ n → c + d ≡ cond b 0 1 → p + c + (q + d) ≡ cond b n (suc n)
+    go true p q c d n e k = omega arith
+    go false p q c d n e k = omega arith
+
+-- none does exactly where e subsumes y
+lack-none : (e y : Trits) → length e ≡ length y → eqb (lack-count e y) 0 ≡ subsumes e y
+unfolding lack-count subsumes
+lack-none = paired _ refl (λ t u e y n ih. go (subsumes-digit t u) (lack-count e y) (subsumes e y) ih)
+  where
+    go : (b : Bool) (n : ℕ) (c : Bool) → eqb n 0 ≡ c → eqb (cond b n (suc n)) 0 ≡ (b && c)
+    go true n c h = h
+    go false n c h = eqb·suc-zero n
+
+module _ (e y : Trits) (n : length e ≡ length y) (short : length e ≤ 32) where
+  -- the other has the same length
+  short-too : length y ≤ 32
+  short-too = rw (← n) short
+
+  -- they stay within the half
+  zeros-small : Z e y < 2 ^ 32
+  zeros-small =
+      xor-lt 32 _ _ (and-lt 32 _ _ (zeros-half e short) (zeros-half y short-too)) (zeros-half e short)
+
+  values-small : O e y < 2 ^ 32
+  values-small =
+      xor-lt 32 _ _ (and-lt 32 _ _ (value-half e short) (value-half y short-too)) (value-half e short)
+
+  -- the word of the bits that lack, by its halves
+  lacks-halves : lacks-word (word e) (word y) ≡ halves (Z e y) (O e y)
+  unfolding lacks-word word
+  lacks-halves =
+      ap (λ (x : ℕ). bitXor x (word e))
+      (and-block 32 (zeros-of e) (zeros-of y) (value-of e) (value-of y) (value-half e short) (value-half y short-too))
+      ∙ xor-block 32 (bitAnd (zeros-of e) (zeros-of y)) (zeros-of e) (bitAnd (value-of e) (value-of y)) (value-of e)
+      (and-lt 32 _ _ (value-half e short) (value-half y short-too)) (value-half e short)
+
+  -- and how many they are
+  lacks-count : ones (lacks-word (word e) (word y)) ≡ lack-count e y
+  lacks-count = ap ones lacks-halves ∙ ones-cat 32 (Z e y) (O e y) values-small ∙ lack-ones e y n
+
+  -- it is a word
+  lacks-lt : lacks-word (word e) (word y) < 2 ^ 64
+  lacks-lt = rw lacks-halves (omega (arith, zeros-small, values-small))
+
+  -- at most one bit lacks exactly where at most one position does
+  pub word-near : lone (lacks-word (word e) (word y)) ≡ near e y
+  unfolding near
+  word-near = lone-ones 64 (lacks-word (word e) (word y)) lacks-lt ∙ ap (λ (x : ℕ). ltb x 2) lacks-count
+
+-- ---- The word of the openings, by the first position and the others
+
+-- the digit of the first position, where b says whether the others are subsumed
+head-digit : Trit → Trit → Bool → ℕ
+head-digit t u b = cond (fixed-digit u && subsumes-digit t (flip u) && b) 1 0
+
+-- it is 0 where they are not
+head-none : (t u : Trit) → head-digit t u false ≡ 0
+unfolding head-digit
+head-none t u = go (fixed-digit u) (subsumes-digit t (flip u))
+  where
+    go : (a b : Bool) → _≡_ {A = ℕ} (cond (a && b && false) 1 0) 0
+    go true true = refl
+    go true false = refl
+    go false b = refl
+
+-- where the first position does not lack
+openings-kept : (t u : Trit) (e y : Trits) → subsumes-digit t u ≡ true
+    → set-word (openings (t ∷ e) (u ∷ y)) ≡ set-word (openings e y) * 2 + head-digit t u (subsumes e y)
+unfolding openings set-word head-digit
+openings-kept t u e y k = rw k
+
+-- where it does
+openings-lost : (t u : Trit) (e y : Trits) → subsumes-digit t u ≡ false
+    → set-word (openings (t ∷ e) (u ∷ y)) ≡ 0 * 2 + head-digit t u (subsumes e y)
+unfolding openings set-word head-digit none
+openings-lost t u e y k = rw (k, none-word (openings e y))
+
+-- the fixed positions of y that e leaves open
+opened : Digitwise (λ p q r s. bitXor (bitOr r s) (bitAnd (bitOr r s) (bitOr p q)))
+opened = xor-of _ _ (or-of _ _ zero-r value-r) (and-of _ _ (or-of _ _ zero-r value-r) (or-of _ _ zero-l value-l))
+
+-- the fixed positions of y among those that lack
+lacking : Digitwise (λ p q r s. bitAnd (bitOr (bitXor (bitAnd p r) p) (bitXor (bitAnd q s) q)) (bitOr r s))
+lacking = and-of _ _ (or-of _ _ lack-zeros lack-values) (or-of _ _ zero-r value-r)
+
+-- those of two strings
+abbrev opened-at : Trits → Trits → ℕ
+opened-at e y =
+    let c = bitOr (zeros-of y) (value-of y) in
+    bitXor c (bitAnd c (bitOr (zeros-of e) (value-of e)))
+
+-- those of two strings
+abbrev lacking-at : Trits → Trits → ℕ
+lacking-at e y = bitAnd (bitOr (Z e y) (O e y)) (bitOr (zeros-of y) (value-of y))
+
+-- ---- No position lacks, one does, or more than one
+
+-- no position lacks: e subsumes y
+none-left : (e y : Trits) → length e ≡ length y → lack-count e y ≡ 0 → subsumes e y ≡ true
+none-left e y n z = sym (lack-none e y n) ∙ eq-eqb (lack-count e y) 0 z
+
+-- some position lacks: it does not
+some-left : (e y : Trits) → length e ≡ length y → 0 < lack-count e y → subsumes e y ≡ false
+some-left e y n z = sym (lack-none e y n) ∙ ne-eqb (lack-count e y) 0 (λ k. omega arith)
+
+-- none lacks: what is left open
+open-all : (e y : Trits) → length e ≡ length y → lack-count e y ≡ 0 → opened-at e y ≡ set-word (openings e y)
+unfolding lack-count
+open-all =
+    paired _ (λ z. unfold zeros-of value-of openings set-word in refl)
+    (λ t u e y n ih z. step t u e y n ih (subsumes-digit t u) refl z)
+  where
+    digit : (t u : Trit) → subsumes-digit t u ≡ true
+        → bitXor (bitOr (zero-bit u) (value-bit u)) (bitAnd (bitOr (zero-bit u) (value-bit u)) (bitOr (zero-bit t) (value-bit t)))
+        ≡ head-digit t u true
+    digit = unfold head-digit in
+        nine _ (λ h. refl) never never never (λ h. refl) never (λ h. refl) (λ h. refl) (λ h. refl)
+
+    step : (t u : Trit) (e y : Trits) → length e ≡ length y
+        → (lack-count e y ≡ 0 → opened-at e y ≡ set-word (openings e y))
+        → (b : Bool) → subsumes-digit t u ≡ b → cond b (lack-count e y) (suc (lack-count e y)) ≡ 0
+        → opened-at (t ∷ e) (u ∷ y) ≡ set-word (openings (t ∷ e) (u ∷ y))
+    step t u e y n ih true q z =
+        on-cons _ opened t u e y
+        ∙ put (ih z) (digit t u q ∙ ap (head-digit t u) (sym (none-left e y n z)))
+        ∙ sym (openings-kept t u e y q)
+    step t u e y n ih false q z = absurd (suc-ne-zero _ z)
+
+-- nothing lacks: no bit does
+lacking-none : (e y : Trits) → length e ≡ length y → length e ≤ 32 → lack-count e y ≡ 0 → lacking-at e y ≡ 0
+lacking-none e y n short z =
+    let s = lack-ones e y n in
+    let a : Z e y ≡ 0 = ones-none 32 (Z e y) (zeros-small e y n short) (omega arith) in
+    let b : O e y ≡ 0 = ones-none 32 (O e y) (values-small e y n short) (omega arith) in
+    ap₂ (λ (x y′ : ℕ). bitAnd (bitOr x y′) (bitOr (zeros-of y) (value-of y))) a b ∙ and-zero-l (bitOr (zeros-of y) (value-of y))
+
+-- one lacks: that one, if y is fixed there
+open-one : (e y : Trits) → length e ≡ length y → length e ≤ 32 → lack-count e y ≡ 1 → lacking-at e y ≡ set-word (openings e y)
+unfolding lack-count
+open-one =
+    paired (λ e y. length e ≤ 32 → lack-count e y ≡ 1 → lacking-at e y ≡ set-word (openings e y))
+    (λ short z. absurd (suc-ne-zero _ (sym z)))
+    (λ t u e y n ih short z. step t u e y n (omega arith) (ih (omega arith)) (subsumes-digit t u) refl z)
+  where
+    lacking-digit : Trit → Trit → ℕ
+    lacking-digit t u =
+        bitAnd (bitOr (bitXor (bitAnd (zero-bit t) (zero-bit u)) (zero-bit t))
+        (bitXor (bitAnd (value-bit t) (value-bit u)) (value-bit t))) (bitOr (zero-bit u) (value-bit u))
+
+    kept : (t u : Trit) → subsumes-digit t u ≡ true → lacking-digit t u ≡ 0
+    kept = nine _ (λ h. refl) never never never (λ h. refl) never (λ h. refl) (λ h. refl) (λ h. refl)
+
+    lost : (t u : Trit) → subsumes-digit t u ≡ false → lacking-digit t u ≡ head-digit t u true
+    lost = unfold head-digit in
+        nine _ never′ (λ h. refl) (λ h. refl) (λ h. refl) never′ (λ h. refl) never′ never′ never′
+
+    step : (t u : Trit) (e y : Trits) → length e ≡ length y → length e ≤ 32
+        → (lack-count e y ≡ 1 → lacking-at e y ≡ set-word (openings e y))
+        → (b : Bool) → subsumes-digit t u ≡ b → cond b (lack-count e y) (suc (lack-count e y)) ≡ 1
+        → lacking-at (t ∷ e) (u ∷ y) ≡ set-word (openings (t ∷ e) (u ∷ y))
+    step t u e y n short ih true q z =
+        on-cons _ lacking t u e y
+        ∙ put (ih z) (kept t u q ∙ sym (ap (head-digit t u) (some-left e y n (omega arith)) ∙ head-none t u))
+        ∙ sym (openings-kept t u e y q)
+    step t u e y n short ih false q z =
+        let r : lack-count e y ≡ 0 = omega arith in
+        on-cons _ lacking t u e y
+        ∙ put (lacking-none e y n short r) (lost t u q ∙ ap (head-digit t u) (sym (none-left e y n r)))
+        ∙ sym (openings-lost t u e y q)
+
+-- more than one lack: none is opened
+open-none : (e y : Trits) → length e ≡ length y → 1 < lack-count e y → 0 ≡ set-word (openings e y)
+unfolding lack-count
+open-none =
+    paired _ (λ z. absurd (omega arith)) (λ t u e y n ih z. step t u e y n ih (subsumes-digit t u) refl z)
+  where
+    step : (t u : Trit) (e y : Trits) → length e ≡ length y → (1 < lack-count e y → 0 ≡ set-word (openings e y))
+        → (b : Bool) → subsumes-digit t u ≡ b → 1 < cond b (lack-count e y) (suc (lack-count e y))
         → 0 ≡ set-word (openings (t ∷ e) (u ∷ y))
-    zero-case ih h =
-        let r = nonzero-rest t u e y h z in
-        let k = ih r (λ j. o (rest-zero t u e y h r ∙ rw j)) in
-        sym (openings-kept t u e y (lack-zero t u h) false (subsumes-some e y (suc-inj n) r) ∙ rw (head-none t u, ← k))
+    step t u e y n ih true q z =
+        sym (openings-kept t u e y q ∙ put (sym (ih z)) (ap (head-digit t u) (some-left e y n (omega arith)) ∙ head-none t u))
+    step t u e y n ih false q z =
+        sym (openings-lost t u e y q ∙ rw (some-left e y n (omega arith), head-none t u))
 
 -- ---- All three
 
-pub openings-word : (e y : Trits) → length e ≡ length y → openings-of (L e y) (word e) (word y) ≡ set-word (openings e y)
-unfolding openings-of
-openings-word e y n = go (eqb (L e y) 0) (eqb (bitAnd (L e y) (L e y - 1)) 0) refl refl
+-- the word that is made for the words of two strings is that of the openings
+pub word-openings : (e y : Trits) → length e ≡ length y → length e ≤ 32
+    → openings-of (lacks-word (word e) (word y)) (word e) (word y) ≡ set-word (openings e y)
+unfolding openings-of fixed-word
+word-openings e y n short = go (eqb w 0) (lone w) refl refl
   where
-    go : (a b : Bool) → eqb (L e y) 0 ≡ a → eqb (bitAnd (L e y) (L e y - 1)) 0 ≡ b
-        → cond a (bitXor (care-of y) (bitAnd (care-of y) (care-of e))) (cond b (bitAnd (L e y) (care-of y)) 0) ≡ set-word
-        (openings e y)
-    go true b p q = unfold opened in open-all e y n (eqb-true (L e y) 0 p)
-    go false true p q = open-one e y n (eqb-false (L e y) 0 p) (eqb-true (bitAnd (L e y) (L e y - 1)) 0 q)
-    go false false p q = open-none e y n (eqb-false (L e y) 0 p) (eqb-false (bitAnd (L e y) (L e y - 1)) 0 q)
+    w : ℕ
+    w = lacks-word (word e) (word y)
+
+    count : ones w ≡ lack-count e y
+    count = lacks-count e y n short
+
+    cares-e : fixed-word (word e) ≡ bitOr (zeros-of e) (value-of e)
+    cares-e = care-word e short ∙ sym (cares-or e)
+
+    cares-y : fixed-word (word y) ≡ bitOr (zeros-of y) (value-of y)
+    cares-y = care-word y (short-too e y n short) ∙ sym (cares-or y)
+
+    lacks : fixed-word w ≡ bitOr (Z e y) (O e y)
+    lacks =
+        ap fixed-word (lacks-halves e y n short)
+        ∙ ap₂ bitOr (pow.high (Z e y) 32 (values-small e y n short)) (pow.low (Z e y) 32 (values-small e y n short))
+
+    lone-count : lone w ≡ ltb (ones w) 2
+    lone-count = lone-ones 64 w (lacks-lt e y n short)
+
+    go : (a b : Bool) → eqb w 0 ≡ a → lone w ≡ b
+        → cond a (bitXor (fixed-word (word y)) (bitAnd (fixed-word (word y)) (fixed-word (word e))))
+        (cond b (bitAnd (fixed-word w) (fixed-word (word y))) 0) ≡ set-word (openings e y)
+    go true b p q =
+        rw (cares-e, cares-y) (open-all e y n (sym count ∙ ap ones (eqb-true w 0 p) ∙ unfold ones in refl))
+    go false true p q =
+        let few : ones w < 2 = ltb-true (ones w) 2 (sym lone-count ∙ q) in
+        let some : ¬ (ones w ≡ 0) = λ z. eqb-false w 0 p (ones-none 64 w (lacks-lt e y n short) z) in
+        rw (lacks, cares-y) (open-one e y n short (omega (arith, count)))
+    go false false p q =
+        let more : 2 ≤ ones w = ltb-false (ones w) 2 (sym lone-count ∙ q) in
+        open-none e y n (omega (arith, count))
 
 -- ---- As the code goes: one branch each
 
-module _ (w : ℕ) (e y : Entry) where
-  pub none-lacks : w ≡ 0 → bitXor (y .care) (bitAnd (y .care) (e .care)) ≡ openings-of w e y
+module _ (w e y : ℕ) where
+  -- none, one, and more
+  pub none-lacks : w ≡ 0 → bitXor (fixed-word y) (bitAnd (fixed-word y) (fixed-word e)) ≡ openings-of w e y
   unfolding openings-of
   none-lacks z = rw (eq-eqb w 0 z)
 
   module _ (z : ¬ (w ≡ 0)) where
-    pub one-lacks : bitAnd w (w - 1) ≡ 0 → bitAnd w (y .care) ≡ openings-of w e y
-    unfolding openings-of
+    pub one-lacks : bitAnd w (w - 1) ≡ 0 → bitAnd (fixed-word w) (fixed-word y) ≡ openings-of w e y
+    unfolding openings-of lone
     one-lacks o = rw (ne-eqb w 0 z, eq-eqb (bitAnd w (w - 1)) 0 o)
 
     pub more-lack : ¬ (bitAnd w (w - 1) ≡ 0) → 0 ≡ openings-of w e y
-    unfolding openings-of
+    unfolding openings-of lone
     more-lack o = rw (ne-eqb w 0 z, ne-eqb (bitAnd w (w - 1)) 0 o)
+
+-- w - 1 as it wraps below 0
+pub wrapped : (w m : ℕ) → (m + 1) % 2 ^ 64 ≡ w → m < 2 ^ 64 → eqb (bitAnd w m) 0 ≡ lone w
+unfolding lone
+wrapped zero m e h = ap (λ (x : ℕ). eqb x 0) (and-zero-l m)
+wrapped (suc w) m e h = let d : m ≡ suc w - 1 = omega arith in rw d

@@ -1,210 +1,198 @@
--- Positions of a string as bits of its words. Assumes nothing.
-use mathlib.Core.Path.{_≡_, refl, sym, ap, ap₂, _∙_}
-use mathlib.Core.Bool.{true, false, false≢true, not, cond}
-use mathlib.Core.List.{[], _∷_}
-use Prim.Native.Nat.{ℕ, zero, suc, _+_, _*_, _%_, _^_, _<_}
-use native.Mathlib.Nat.{pow-suc, not-suc-le-zero, le-of-suc-le-suc}
+-- Positions of a string as bits of its word. Assumes nothing.
+use mathlib.Core.Path.{_≡_, refl, ap, ap₂, _∙_}
+use mathlib.Core.Bool.{true, false, cond}
+use mathlib.Core.List.{[], _∷_, map}
+use Prim.Native.Nat.{ℕ, zero, suc, _+_, _*_, _%_, _^_, _<_, _≤_}
+use native.Mathlib.Nat.{pow-suc}
 use native.Mathlib.Omega.{arith}
-use lib.Bits.{bitAnd, bitOr, bitXor, and-block, or-block, xor-block, and-zero-r, or-zero-r, xor-zero-r, and-lt, xor-lt}
+use lib.Bits.{bitAnd, bitOr, bitXor, and-block, or-block, xor-block, and-lt, and-zero-l, and-zero-r, or-zero-r, xor-zero-r}
 use lib.Count.{ones, ones-cat}
-use lib.Dec.{lit<, eqb}
-use lib.ListN.{length}
-use lib.Pow.{shl-exact}
+use lib.Dec.{lit<}
+use lib.ListN.{length, length-map}
+use lib.Pow.{shl-exact, pow-lt}
 use Rattle.model.specs.Strings.{Trit, t0, t1, t*, Trits, fixed-digit, flip, fixed, fixed-count, flipped, starred, opposed}
-use Rattle.model.specs.Strings.{one-at}
-use Rattle.words.specs.declared.Entry.{Entry}
-use Rattle.words.specs.Words.{care-bit, value-bit, care-of, value-of, word, fixed-words, flipped-words, starred-words}
-use Rattle.words.specs.Words.{opposed-words}
-use Rattle.words.proofs.Codec.{value-in, value-bit-in, stars-word}
-use Rattle.words.proofs.Digits.{care-bit-lt, value-bit-lt, eqb-digit}
+use Rattle.words.specs.Words.{value-bit, zero-bit, value-of, zeros-of, word, halves, both, flipped-word, starred-word}
+use Rattle.words.specs.Words.{opposed-word}
+use Rattle.words.proofs.Digits.{value-bit-lt, zero-bit-lt, put, nine, never, never′}
+use Rattle.words.proofs.Halves.{value-half, joined, Half, zeros-part, value-part}
+use Rattle.words.proofs.Words.{word-opposite}
 
 -- as `1 << i` comes into a goal
 pub one-shl : (i w : ℕ) → i < w → (1 * 2 ^ i) % 2 ^ w ≡ 2 ^ i
 one-shl i w h = shl-exact 1 i w (lit< tt) (omega arith) ∙ omega arith
 
--- ---- A bit operation with the bit of one position
+-- ---- How many are fixed
 
+-- the bits of both halves, position by position
+count-halves : (s : Trits) → ones (zeros-of s) + ones (value-of s) ≡ fixed-count s
+unfolding zeros-of value-of fixed-count ones
+count-halves [] = refl
+count-halves (t ∷ s) =
+    ap₂ _+_ (ones-cat 1 (zeros-of s) (zero-bit t) (zero-bit-lt t)) (ones-cat 1 (value-of s) (value-bit t) (value-bit-lt t))
+    ∙ digit t (ones (zeros-of s)) (ones (value-of s)) (fixed-count s) (count-halves s)
+  where
+    digit : (t : Trit) (a b n : ℕ) → a + b ≡ n
+        → a + ones (zero-bit t) + (b + ones (value-bit t)) ≡ cond (fixed-digit t) (suc n) n
+    digit t0 a b n e = omega arith
+    digit t1 a b n e = omega arith
+    digit t* a b n e = omega arith
+
+-- a word has a bit for each fixed position
+pub word-count : (s : Trits) → length s ≤ 32 → ones (word s) ≡ fixed-count s
+unfolding word
+word-count s short = ones-cat 32 (zeros-of s) (value-of s) (value-half s short) ∙ count-halves s
+
+-- ---- A bit operation with the bit of one position, in one half
+
+-- the bit of the next position
 pow-digit : (i : ℕ) → 2 ^ suc i ≡ 2 ^ i * 2 + 0
 pow-digit i = omega (arith, pow-suc 2 i)
 
 module _ (bit : ℕ → ℕ → ℕ) (block : (a b r s : ℕ) → r < 2 → s < 2 → bit (a * 2 + r) (b * 2 + s) ≡ bit a b * 2 + bit r s) where
+  -- at the first position
   here : (x d : ℕ) → d < 2 → bit (x * 2 + d) (2 ^ 0) ≡ bit x 0 * 2 + bit d 1
   here x d h = block x 0 d 1 h (lit< tt)
 
+  -- at a later one
   below : (i x d : ℕ) → d < 2 → bit (x * 2 + d) (2 ^ suc i) ≡ bit x (2 ^ i) * 2 + bit d 0
   below i x d h = ap (bit (x * 2 + d)) (pow-digit i) ∙ block x (2 ^ i) d 0 h (lit< tt)
 
-put : {a b c d : ℕ} → a ≡ b → c ≡ d → a * 2 + c ≡ b * 2 + d
-put p q = ap₂ (λ (x y : ℕ). x * 2 + y) p q
+-- x without the bits of p
+without : ℕ → ℕ → ℕ
+without x p = bitXor x (bitAnd x p)
 
--- ---- Fixed
+-- it goes digit by digit
+without-block : (x p d e : ℕ) → d < 2 → e < 2 → without (x * 2 + d) (p * 2 + e) ≡ without x p * 2 + without d e
+unfolding without
+without-block x p d e hd he =
+    ap (bitXor (x * 2 + d)) (and-block 1 x p d e hd he) ∙ xor-block 1 x (bitAnd x p) d (bitAnd d e) hd (and-lt 1 d e hd he)
 
-fixed-bit : (t : Trit) → not (eqb (0 * 2 + bitAnd (care-bit t) 1) 0) ≡ fixed-digit t
-fixed-bit t0 = refl
-fixed-bit t1 = refl
-fixed-bit t* = refl
+-- without no bit
+without-zero : (x : ℕ) → without x 0 ≡ x
+unfolding without
+without-zero x = ap (bitXor x) (and-zero-r x) ∙ xor-zero-r x
 
-pub fixed-word : (i : ℕ) (s : Trits) → fixed-words i (word s) ≡ fixed i s
-unfolding fixed-words fixed care-of
-fixed-word i [] = refl
-fixed-word zero (t ∷ s) =
-    ap (λ (x : ℕ). not (eqb x 0))
-    (here bitAnd (and-block 1) (care-of s) (care-bit t) (care-bit-lt t) ∙ ap (λ (x : ℕ). x * 2 + bitAnd (care-bit t) 1)
-    (and-zero-r (care-of s)))
-    ∙ fixed-bit t
-fixed-word (suc i) (t ∷ s) =
-    ap (λ (x : ℕ). not (eqb x 0))
-    (below bitAnd (and-block 1) i (care-of s) (care-bit t) (care-bit-lt t) ∙ ap (λ (x : ℕ). bitAnd (care-of s) (2 ^ i) * 2 + x)
-    (and-zero-r (care-bit t)))
-    ∙ ap not (eqb-digit (bitAnd (care-of s) (2 ^ i)) 0 0 0 (lit< tt) (lit< tt))
-    ∙ fixed-word i s
+module _ (h : Half) where
+  -- the bit of a fixed position turned over
+  flip-half : ((t : Trit) → fixed-digit t ≡ true → bitXor (h .bit t) 1 ≡ h .bit (flip t))
+      → (i : ℕ) (s : Trits) → fixed i s ≡ true → bitXor (h .of s) (2 ^ i) ≡ h .of (flipped i s)
+  unfolding flipped fixed
+  flip-half digit i [] k = never k
+  flip-half digit zero (t ∷ s) k =
+      rw (h .cons t s, h .cons (flip t) s)
+      (here bitXor (xor-block 1) (h .of s) (h .bit t) (h .small t) ∙ put (xor-zero-r (h .of s)) (digit t k))
+  flip-half digit (suc i) (t ∷ s) k =
+      rw (h .cons t s, h .cons t (flipped i s))
+      (below bitXor (xor-block 1) i (h .of s) (h .bit t) (h .small t)
+      ∙ put (flip-half digit i s k) (xor-zero-r (h .bit t)))
 
-count-digit : (t : Trit) (n : ℕ) → n + ones (care-bit t) ≡ cond (fixed-digit t) (suc n) n
-unfolding ones
-count-digit t0 n = omega arith
-count-digit t1 n = omega arith
-count-digit t* n = omega arith
+  -- the bit of a position cleared
+  star-half : ((t : Trit) → without (h .bit t) 1 ≡ h .bit t*) → (i : ℕ) (s : Trits)
+      → without (h .of s) (2 ^ i) ≡ h .of (starred i s)
+  unfolding starred
+  star-half digit i [] = rw (h .nil) (unfold without in ap (bitXor 0) (and-zero-l (2 ^ i)))
+  star-half digit zero (t ∷ s) =
+      rw (h .cons t s, h .cons t* s)
+      (here without without-block (h .of s) (h .bit t) (h .small t) ∙ put (without-zero (h .of s)) (digit t))
+  star-half digit (suc i) (t ∷ s) =
+      rw (h .cons t s, h .cons t (starred i s))
+      (below without without-block i (h .of s) (h .bit t) (h .small t) ∙ put (star-half digit i s) (without-zero (h .bit t)))
 
-pub count-word : (s : Trits) → ones (care-of s) ≡ fixed-count s
-unfolding care-of fixed-count ones
-count-word [] = refl
-count-word (t ∷ s) =
-    ones-cat 1 (care-of s) (care-bit t) (care-bit-lt t)
-    ∙ ap (λ (n : ℕ). n + ones (care-bit t)) (count-word s)
-    ∙ count-digit t (fixed-count s)
+  -- the bit of a position of the opposite put in
+  oppose-half : ((u t : Trit) → fixed-digit t ≡ false → bitOr (h .bit t) (bitAnd (h .bit (flip u)) 1) ≡ h .bit (flip u))
+      → (i : ℕ) (v y : Trits) → length y ≡ length v → fixed i y ≡ false
+      → bitOr (h .of y) (bitAnd (h .of (map flip v)) (2 ^ i)) ≡ h .of (opposed i v y)
+  unfolding opposed fixed
+  oppose-half digit i [] [] n k = rw (h .nil) (ap (bitOr 0) (and-zero-l (2 ^ i)))
+  oppose-half digit i (u ∷ v) [] n k = absurd (omega arith)
+  oppose-half digit i [] (t ∷ y) n k = absurd (omega arith)
+  oppose-half digit zero (u ∷ v) (t ∷ y) n k =
+      rw (h .cons t y, h .cons (flip u) (map flip v), h .cons (flip u) y)
+      (ap (bitOr (h .of y * 2 + h .bit t))
+      (here bitAnd (and-block 1) (h .of (map flip v)) (h .bit (flip u)) (h .small (flip u))
+      ∙ put (and-zero-r (h .of (map flip v))) refl)
+      ∙ or-block 1 (h .of y) 0 (h .bit t) (bitAnd (h .bit (flip u)) 1) (h .small t)
+      (and-lt 1 (h .bit (flip u)) 1 (h .small (flip u)) (lit< tt))
+      ∙ put (or-zero-r (h .of y)) (digit u t k))
+  oppose-half digit (suc i) (u ∷ v) (t ∷ y) n k =
+      rw (h .cons t y, h .cons (flip u) (map flip v), h .cons t (opposed i v y))
+      (ap (bitOr (h .of y * 2 + h .bit t))
+      (below bitAnd (and-block 1) i (h .of (map flip v)) (h .bit (flip u)) (h .small (flip u))
+      ∙ put refl (and-zero-r (h .bit (flip u))))
+      ∙ or-block 1 (h .of y) (bitAnd (h .of (map flip v)) (2 ^ i)) (h .bit t) 0 (h .small t) (lit< tt)
+      ∙ put (oppose-half digit i v y (omega arith) k) (or-zero-r (h .bit t)))
 
--- ---- Flipped: care stays, and an exclusive or turns the value over
+-- ---- And in the whole word
 
-flip-care : (i : ℕ) (s : Trits) → care-of s ≡ care-of (flipped i s)
-unfolding care-of flipped
-flip-care i [] = refl
-flip-care zero (t0 ∷ s) = refl
-flip-care zero (t1 ∷ s) = refl
-flip-care zero (t* ∷ s) = refl
-flip-care (suc i) (t ∷ s) = ap (λ (x : ℕ). x * 2 + care-bit t) (flip-care i s)
+-- as `(bit << 32) | bit` comes into a goal
+pub both-joined : (i : ℕ) → i < 32 → bitOr ((2 ^ i * 2 ^ 32) % 2 ^ 64) (2 ^ i) ≡ both i
+unfolding both
+both-joined i l = joined (2 ^ i) (2 ^ i) (pow-lt l) (pow-lt l)
 
-flip-bit : (t : Trit) → fixed-digit t ≡ true → bitXor (value-bit t) 1 ≡ value-bit (flip t)
-flip-bit t0 h = refl
-flip-bit t1 h = refl
-flip-bit t* h = absurd (false≢true h)
+module _ (i : ℕ) (l : i < 32) where
+  -- the bits of a string's word at position i
+  and-both : (s : Trits) → length s ≤ 32
+      → bitAnd (word s) (both i) ≡ halves (bitAnd (zeros-of s) (2 ^ i)) (bitAnd (value-of s) (2 ^ i))
+  unfolding word both
+  and-both s short = and-block 32 (zeros-of s) (2 ^ i) (value-of s) (2 ^ i) (value-half s short) (pow-lt l)
 
-flip-value : (i : ℕ) (s : Trits) → fixed i s ≡ true → bitXor (value-of s) (2 ^ i) ≡ value-of (flipped i s)
-unfolding value-of flipped fixed
-flip-value i [] h = absurd (false≢true h)
-flip-value zero (t ∷ s) h =
-    here bitXor (xor-block 1) (value-of s) (value-bit t) (value-bit-lt t) ∙ put (xor-zero-r (value-of s)) (flip-bit t h)
-flip-value (suc i) (t ∷ s) h =
-    below bitXor (xor-block 1) i (value-of s) (value-bit t) (value-bit-lt t) ∙ put (flip-value i s h) (xor-zero-r (value-bit t))
+  -- they stay within the half
+  and-small : (s : Trits) → length s ≤ 32 → bitAnd (value-of s) (2 ^ i) < 2 ^ 32
+  and-small s short = and-lt 32 (value-of s) (2 ^ i) (value-half s short) (pow-lt l)
 
-pub flipped-word : (i : ℕ) (s : Trits) → fixed i s ≡ true → flipped-words i (word s) ≡ word (flipped i s)
-unfolding flipped-words
-flipped-word i s h = λ j. record { care = flip-care i s j; value = flip-value i s h j }
+  -- both bits of a fixed position turned over
+  pub word-flipped : (s : Trits) → length s ≤ 32 → fixed i s ≡ true → flipped-word i (word s) ≡ word (flipped i s)
+  unfolding flipped-word both word
+  word-flipped s short k =
+      xor-block 32 (zeros-of s) (2 ^ i) (value-of s) (2 ^ i) (value-half s short) (pow-lt l)
+      ∙ ap₂ halves (flip-half zeros-part zero-digit i s k) (flip-half value-part value-digit i s k)
+    where
+      zero-digit : (t : Trit) → fixed-digit t ≡ true → bitXor (zero-bit t) 1 ≡ zero-bit (flip t)
+      zero-digit t0 h = refl
+      zero-digit t1 h = refl
+      zero-digit t* h = never h
 
--- ---- Starred: the bit of care is cleared, and value keeps what is still fixed
+      value-digit : (t : Trit) → fixed-digit t ≡ true → bitXor (value-bit t) 1 ≡ value-bit (flip t)
+      value-digit t0 h = refl
+      value-digit t1 h = refl
+      value-digit t* h = never h
 
-star-bit : (t : Trit) → fixed-digit t ≡ true → bitXor (care-bit t) 1 ≡ 0
-star-bit t0 h = refl
-star-bit t1 h = refl
-star-bit t* h = absurd (false≢true h)
+  -- both bits cleared
+  pub word-starred : (s : Trits) → length s ≤ 32 → starred-word i (word s) ≡ word (starred i s)
+  unfolding starred-word word without
+  word-starred s short =
+      ap (bitXor (word s)) (and-both s short)
+      ∙ xor-block 32 (zeros-of s) (bitAnd (zeros-of s) (2 ^ i)) (value-of s) (bitAnd (value-of s) (2 ^ i))
+      (value-half s short) (and-small s short)
+      ∙ ap₂ halves (star-half zeros-part zero-digit i s) (star-half value-part value-digit i s)
+    where
+      zero-digit : (t : Trit) → without (zero-bit t) 1 ≡ 0
+      zero-digit t0 = refl
+      zero-digit t1 = refl
+      zero-digit t* = refl
 
-star-care : (i : ℕ) (s : Trits) → fixed i s ≡ true → bitXor (care-of s) (2 ^ i) ≡ care-of (starred i s)
-unfolding care-of starred fixed
-star-care i [] h = absurd (false≢true h)
-star-care zero (t ∷ s) h =
-    here bitXor (xor-block 1) (care-of s) (care-bit t) (care-bit-lt t) ∙ put (xor-zero-r (care-of s)) (star-bit t h)
-star-care (suc i) (t ∷ s) h =
-    below bitXor (xor-block 1) i (care-of s) (care-bit t) (care-bit-lt t) ∙ put (star-care i s h) (xor-zero-r (care-bit t))
+      value-digit : (t : Trit) → without (value-bit t) 1 ≡ 0
+      value-digit t0 = refl
+      value-digit t1 = refl
+      value-digit t* = refl
 
-star-value : (i : ℕ) (s : Trits) → bitAnd (value-of s) (care-of (starred i s)) ≡ value-of (starred i s)
-unfolding care-of value-of starred
-star-value i [] = refl
-star-value zero (t ∷ s) =
-    and-block 1 (value-of s) (care-of s) (value-bit t) 0 (value-bit-lt t) (lit< tt) ∙ put (value-in s) (and-zero-r (value-bit t))
-star-value (suc i) (t ∷ s) =
-    and-block 1 (value-of s) (care-of (starred i s)) (value-bit t) (care-bit t) (value-bit-lt t) (care-bit-lt t)
-    ∙ put (star-value i s) (value-bit-in t)
+  -- the opposite of v at position i put in
+  pub word-opposed : (v y : Trits) → length y ≡ length v → length y ≤ 32 → fixed i y ≡ false
+      → opposed-word i (word v) (word y) ≡ word (opposed i v y)
+  unfolding opposed-word word
+  word-opposed v y n short k =
+      let sv : length v ≤ 32 = rw (← n) short in
+      let sf : length (map flip v) ≤ 32 = rw (length-map v flip) sv in
+      ap (λ (x : ℕ). bitOr (word y) (bitAnd x (both i))) (word-opposite v sv)
+      ∙ ap (bitOr (word y)) (and-both (map flip v) sf)
+      ∙ or-block 32 (zeros-of y) (bitAnd (zeros-of (map flip v)) (2 ^ i)) (value-of y) (bitAnd (value-of (map flip v)) (2 ^ i))
+      (value-half y short) (and-small (map flip v) sf)
+      ∙ ap₂ halves (oppose-half zeros-part zero-digit i v y n k) (oppose-half value-part value-digit i v y n k)
+    where
+      zero-digit : (u t : Trit) → fixed-digit t ≡ false
+          → bitOr (zero-bit t) (bitAnd (zero-bit (flip u)) 1) ≡ zero-bit (flip u)
+      zero-digit = nine _ never′ never′ (λ h. refl) never′ never′ (λ h. refl) never′ never′ (λ h. refl)
 
-pub starred-word : (i : ℕ) (s : Trits) → fixed i s ≡ true → starred-words i (word s) ≡ word (starred i s)
-unfolding starred-words
-starred-word i s h = rw (star-care i s h) (λ j. record { care = care-of (starred i s); value = star-value i s j })
-
--- ---- Opposed: the bit of care is set, and the opposite of v's bit is put in
-
--- the bit of v at i, turned over; what stands above and below is 0
-turn : ℕ → ℕ → ℕ
-turn x p = bitXor (bitAnd x p) p
-
-turn-block : (x p d e : ℕ) → d < 2 → e < 2 → turn (x * 2 + d) (p * 2 + e) ≡ turn x p * 2 + turn d e
-unfolding turn
-turn-block x p d e hd he =
-    ap (λ (k : ℕ). bitXor k (p * 2 + e)) (and-block 1 x p d e hd he) ∙ xor-block 1 (bitAnd x p) p (bitAnd d e) e
-    (and-lt 1 d e hd he) he
-
-turn-zero : (x : ℕ) → turn x 0 ≡ 0
-unfolding turn
-turn-zero x = ap (λ (k : ℕ). bitXor k 0) (and-zero-r x)
-
-turn-lt : (d e : ℕ) → d < 2 → e < 2 → turn d e < 2
-unfolding turn
-turn-lt d e hd he = xor-lt 1 (bitAnd d e) e (and-lt 1 d e hd he) he
-
-oppose-care-bit : (u t : Trit) → fixed-digit u ≡ true → bitOr (care-bit t) 1 ≡ care-bit (flip u)
-oppose-care-bit t0 t0 h = refl
-oppose-care-bit t0 t1 h = refl
-oppose-care-bit t0 t* h = refl
-oppose-care-bit t1 t0 h = refl
-oppose-care-bit t1 t1 h = refl
-oppose-care-bit t1 t* h = refl
-oppose-care-bit t* t h = absurd (false≢true h)
-
-oppose-value-bit : (u t : Trit) → fixed-digit u ≡ true → fixed-digit t ≡ false
-    → bitOr (value-bit t) (turn (value-bit u) 1) ≡ value-bit (flip u)
-unfolding turn
-oppose-value-bit t0 t* h k = refl
-oppose-value-bit t1 t* h k = refl
-oppose-value-bit t* t* h k = absurd (false≢true h)
-oppose-value-bit u t0 h k = absurd (false≢true (sym k))
-oppose-value-bit u t1 h k = absurd (false≢true (sym k))
-
-oppose-care : (i : ℕ) (v y : Trits) → length y ≡ length v → fixed i v ≡ true → bitOr (care-of y) (2 ^ i) ≡ care-of (opposed i v y)
-unfolding care-of opposed fixed
-oppose-care i [] y n h = absurd (false≢true h)
-oppose-care i (u ∷ v) [] n h = absurd (omega arith)
-oppose-care zero (u ∷ v) (t ∷ y) n h =
-    here bitOr (or-block 1) (care-of y) (care-bit t) (care-bit-lt t) ∙ put (or-zero-r (care-of y)) (oppose-care-bit u t h)
-oppose-care (suc i) (u ∷ v) (t ∷ y) n h =
-    below bitOr (or-block 1) i (care-of y) (care-bit t) (care-bit-lt t) ∙ put (oppose-care i v y (omega arith) h)
-    (or-zero-r (care-bit t))
-
-oppose-value : (i : ℕ) (v y : Trits) → length y ≡ length v → fixed i y ≡ false → fixed i v ≡ true
-    → bitOr (value-of y) (turn (value-of v) (2 ^ i)) ≡ value-of (opposed i v y)
-unfolding value-of opposed fixed
-oppose-value i [] y n k h = absurd (false≢true h)
-oppose-value i (u ∷ v) [] n k h = absurd (omega arith)
-oppose-value zero (u ∷ v) (t ∷ y) n k h =
-    ap (bitOr (value-of y * 2 + value-bit t)) (turn-block (value-of v) 0 (value-bit u) 1 (value-bit-lt u) (lit< tt))
-    ∙ or-block 1 (value-of y) (turn (value-of v) 0) (value-bit t) (turn (value-bit u) 1) (value-bit-lt t)
-    (turn-lt (value-bit u) 1 (value-bit-lt u) (lit< tt))
-    ∙ put (ap (bitOr (value-of y)) (turn-zero (value-of v)) ∙ or-zero-r (value-of y)) (oppose-value-bit u t h k)
-oppose-value (suc i) (u ∷ v) (t ∷ y) n k h =
-    ap (bitOr (value-of y * 2 + value-bit t))
-    (ap (turn (value-of v * 2 + value-bit u)) (pow-digit i) ∙ turn-block (value-of v) (2 ^ i) (value-bit u) 0 (value-bit-lt u)
-    (lit< tt))
-    ∙ or-block 1 (value-of y) (turn (value-of v) (2 ^ i)) (value-bit t) (turn (value-bit u) 0) (value-bit-lt t)
-    (turn-lt (value-bit u) 0 (value-bit-lt u) (lit< tt))
-    ∙ put (oppose-value i v y (omega arith) k h) (ap (bitOr (value-bit t)) (turn-zero (value-bit u)) ∙ or-zero-r (value-bit t))
-
-pub opposed-word : (i : ℕ) (v y : Trits) → length y ≡ length v → fixed i y ≡ false → fixed i v ≡ true
-    → opposed-words i (word v) (word y) ≡ word (opposed i v y)
-unfolding opposed-words turn
-opposed-word i v y n k h = λ j. record { care = oppose-care i v y n h j; value = oppose-value i v y n k h j }
-
--- ---- One position fixed to 1: both words are that bit
-
-pub one-word : (l i : ℕ) → i < l → record { care = 2 ^ i; value = 2 ^ i } ≡ word (one-at l i)
-unfolding one-at care-of value-of
-one-word zero i h = absurd (not-suc-le-zero h)
-one-word (suc l) zero h = sym (ap (λ (e : Entry). record { care = e .care * 2 + 1; value = e .value * 2 + 1 }) (stars-word l))
-one-word (suc l) (suc i) h =
-    let d : 2 ^ suc i ≡ 2 ^ i * 2 + 0 = omega (arith, pow-suc 2 i) in
-    rw d (ap (λ (e : Entry). record { care = e .care * 2 + 0; value = e .value * 2 + 0 }) (one-word l i (le-of-suc-le-suc h)))
+      value-digit : (u t : Trit) → fixed-digit t ≡ false
+          → bitOr (value-bit t) (bitAnd (value-bit (flip u)) 1) ≡ value-bit (flip u)
+      value-digit = nine _ never′ never′ (λ h. refl) never′ never′ (λ h. refl) never′ never′ (λ h. refl)

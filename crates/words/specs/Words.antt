@@ -1,11 +1,12 @@
--- A string as two words. Bit i of `care` is 1 where position i is fixed, and bit i of `value` is its value there; `value`
--- is 0 where `care` is 0. Positions are counted from 0.
+-- A string as one word of 64 bits: bit i of its high half is 1 where position i is 0, bit i of its low half where position i
+-- is 1. As a table has it, a string is two words: bit i of `care` is 1 where position i is fixed, bit i of `value` is its
+-- value there, and 0 where `care` is 0. Positions are counted from 0.
 use mathlib.Core.Path.{_≡_}
-use mathlib.Core.Bool.{Bool, false, _&&_, not, cond}
+use mathlib.Core.Bool.{Bool, true, false, _&&_, cond}
 use mathlib.Core.List.{[], _∷_, map}
 use Prim.Native.Nat.{ℕ, zero, suc, _+_, _-_, _*_, _/_, _%_, _^_}
 use lib.Bits.{bitAnd, bitOr, bitXor}
-use lib.Dec.{eqb}
+use lib.Dec.{eqb, ltb}
 use Rattle.model.specs.Groups.{Bits}
 use Rattle.model.specs.Strings.{Trit, t0, t1, t*, Trits, fixed-digit, flip, subsumes-digit, subsumes}
 use Rattle.words.specs.declared.Entry.{Entry}
@@ -34,9 +35,9 @@ unfoldable pub value-of : Trits → ℕ
 value-of [] = 0
 value-of (t ∷ s) = value-of s * 2 + value-bit t
 
--- The two words of a string.
-abbrev pub word : Trits → Entry
-word s = record { care = care-of s; value = value-of s }
+-- The care and the value word of a string.
+abbrev pub entry : Trits → Entry
+entry s = record { care = care-of s; value = value-of s }
 
 -- The word of a set of variables, or of a string of 0 and 1: bit i - 1 for Xi.
 unfoldable pub set-word : Bits → ℕ
@@ -54,13 +55,9 @@ unfoldable pub zeros-of : Trits → ℕ
 zeros-of [] = 0
 zeros-of (t ∷ s) = zeros-of s * 2 + zero-bit t
 
--- The key of a string of at most 16 positions: its zeros in the high half, its ones in the low half.
-unfoldable pub key-of : Trits → ℕ
-key-of s = zeros-of s * 2 ^ 16 + value-of s
-
--- Every bit of k is one of m.
-unfoldable pub within : ℕ → ℕ → Bool
-within k m = eqb (bitAnd k m) k
+-- The word of a string: its zeros in the high half, its ones, which are the value word, in the low half.
+unfoldable pub word : Trits → ℕ
+word s = zeros-of s * 2 ^ 32 + value-of s
 
 -- ---- And back
 
@@ -70,7 +67,7 @@ trit-of zero v = t*
 trit-of (suc c) zero = t0
 trit-of (suc c) (suc v) = t1
 
--- The string of l positions that two words stand for.
+-- The string of l positions that care and value stand for.
 unfoldable pub string : ℕ → Entry → Trits
 string zero e = []
 string (suc l) e = trit-of (e .care % 2) (e .value % 2) ∷ string l (record { care = e .care / 2; value = e .value / 2 })
@@ -80,9 +77,9 @@ unfoldable pub set : ℕ → ℕ → Bits
 set zero w = []
 set (suc l) w = eqb (w % 2) 1 ∷ set l (w / 2)
 
--- The words encode a string of l positions: no bit above l, no value without care.
+-- Care and value encode a string of l positions: no bit above l, no value without care.
 abbrev pub Encodes : ℕ → Entry → Type 0
-Encodes l e = e ≡ word (string l e)
+Encodes l e = e ≡ entry (string l e)
 
 -- ---- The positions of one string that another opens
 
@@ -94,73 +91,103 @@ openings (t ∷ e) (u ∷ y) =
     (fixed-digit u && subsumes-digit t (flip u) && subsumes e y)
     ∷ cond (subsumes-digit t u) (openings e y) (map (λ (b : Bool). false) (openings e y))
 
--- ---- What each operation makes of any two words
+-- Every position is fixed.
+unfoldable pub starless : Trits → Bool
+starless [] = true
+starless (t ∷ s) = fixed-digit t && starless s
 
--- a.care is within b.care, and the values agree on a.care.
-unfoldable pub subsumes-words : Entry → Entry → Bool
-subsumes-words a b = eqb (bitAnd (a .care) (b .care)) (a .care) && eqb (bitAnd (b .value) (a .care)) (a .value)
+-- How many positions e is fixed at and y is not fixed to the same value.
+unfoldable pub lack-count : Trits → Trits → ℕ
+lack-count [] y = 0
+lack-count (t ∷ e) [] = 0
+lack-count (t ∷ e) (u ∷ y) = cond (subsumes-digit t u) (lack-count e y) (suc (lack-count e y))
 
--- Care without value in the high half, and value.
-unfoldable pub key-words : Entry → ℕ
-key-words a = bitOr ((bitXor (a .care) (a .value) * 2 ^ 16) % 2 ^ 32) (a .value)
+-- e lacks at most one position of y: only such an entry can subsume what y is widened to, or that with one value flipped.
+unfoldable pub near : Trits → Trits → Bool
+near e y = ltb (lack-count e y) 2
 
--- Value is the low half, and care both halves.
-unfoldable pub of-key-words : ℕ → Entry
-of-key-words k = record { care = bitOr (k / 2 ^ 16) (k % 65536); value = k % 65536 }
+-- ---- What each operation makes of any words
 
--- The values agree where both are fixed.
-unfoldable pub matches-words : Entry → Entry → Bool
-matches-words a b = eqb (bitAnd (a .value) (b .care)) (bitAnd (b .value) (a .care))
+-- The zeros of a word, its high half.
+abbrev pub high : ℕ → ℕ
+high a = a / 2 ^ 32
 
--- Fixed where one is.
-unfoldable pub meet-words : Entry → Entry → Entry
-meet-words a b = record { care = bitOr (a .care) (b .care); value = bitOr (a .value) (b .value) }
+-- The ones of a word, its low half.
+abbrev pub low : ℕ → ℕ
+low a = a % 2 ^ 32
 
--- 1 where one is 1, fixed also where both are fixed.
-unfoldable pub or-words : Entry → Entry → Entry
-or-words a b = record {
-  care = bitOr (bitAnd (a .care) (b .care)) (bitOr (a .value) (b .value));
-  value = bitOr (a .value) (b .value);
-}
+-- The word with these two halves.
+abbrev pub halves : ℕ → ℕ → ℕ
+halves z o = z * 2 ^ 32 + o
 
--- All l bits of care, and value 0.
-unfoldable pub zero-words : ℕ → Entry → Bool
-zero-words l a = eqb (a .care + 1) (2 ^ l) && eqb (a .value) 0
+-- Care without value is the high half, value the low half.
+unfoldable pub word-of : Entry → ℕ
+word-of e = halves (bitXor (e .care) (e .value)) (e .value)
 
--- Bit i of care.
-unfoldable pub fixed-words : ℕ → Entry → Bool
-fixed-words i a = not (eqb (bitAnd (a .care) (2 ^ i)) 0)
+-- Value is the low half, and care has the bits of both.
+unfoldable pub entry-of : ℕ → Entry
+entry-of a = record { care = bitOr (high a) (low a); value = low a }
 
--- Bit i of value turned over.
-unfoldable pub flipped-words : ℕ → Entry → Entry
-flipped-words i a = record { care = a .care; value = bitXor (a .value) (2 ^ i) }
+-- The fixed positions: the bits of both halves.
+unfoldable pub fixed-word : ℕ → ℕ
+fixed-word a = bitOr (high a) (low a)
 
--- Bit i of care turned over, and value kept where care is left.
-unfoldable pub starred-words : ℕ → Entry → Entry
-starred-words i a = record { care = bitXor (a .care) (2 ^ i); value = bitAnd (a .value) (bitXor (a .care) (2 ^ i)) }
+-- Every bit of a is one of b.
+unfoldable pub subsumes-word : ℕ → ℕ → Bool
+subsumes-word a b = eqb (bitAnd a b) a
 
--- Bit i of care set, and of value where v has none.
-unfoldable pub opposed-words : ℕ → Entry → Entry → Entry
-opposed-words i v y = record {
-  care = bitOr (y .care) (2 ^ i);
-  value = bitOr (y .value) (bitXor (bitAnd (v .value) (2 ^ i)) (2 ^ i));
-}
+-- No position is in both halves of "a or b".
+unfoldable pub matches-word : ℕ → ℕ → Bool
+matches-word a b = eqb (bitAnd (high (bitOr a b)) (low (bitOr a b))) 0
 
--- Where e is fixed and y is not fixed to the same value.
-unfoldable pub lacks-word : Entry → Entry → ℕ
-lacks-word e y = bitOr (bitXor (bitAnd (e .care) (y .care)) (e .care)) (bitXor (bitAnd (y .value) (e .care)) (e .value))
+-- 0 where both are 0, 1 where one is 1.
+unfoldable pub or-word : ℕ → ℕ → ℕ
+or-word a b = halves (bitAnd (high a) (high b)) (low (bitOr a b))
 
--- Of a word w with the bits that lack: where none does, the fixed positions of y that e leaves open; where one does, that
--- one, if y is fixed there.
-unfoldable pub openings-of : ℕ → Entry → Entry → ℕ
+-- The word of the all-zero string of l positions.
+unfoldable pub zero-word : ℕ → ℕ
+zero-word l = halves (2 ^ l - 1) 0
+
+-- Bit i in both halves.
+unfoldable pub both : ℕ → ℕ
+both i = halves (2 ^ i) (2 ^ i)
+
+-- Both bits of position i turned over.
+unfoldable pub flipped-word : ℕ → ℕ → ℕ
+flipped-word i a = bitXor a (both i)
+
+-- Neither bit of position i.
+unfoldable pub starred-word : ℕ → ℕ → ℕ
+starred-word i a = bitXor a (bitAnd a (both i))
+
+-- The two halves exchanged: the opposite at each fixed position.
+unfoldable pub opposite-word : ℕ → ℕ
+opposite-word v = halves (low v) (high v)
+
+-- y with what v has at position i, exchanged.
+unfoldable pub opposed-word : ℕ → ℕ → ℕ → ℕ
+opposed-word i v y = bitOr y (bitAnd (opposite-word v) (both i))
+
+-- The bits of e that y lacks: where e is fixed and y is not fixed to the same value.
+unfoldable pub lacks-word : ℕ → ℕ → ℕ
+lacks-word e y = bitXor (bitAnd e y) e
+
+-- A word has at most one bit.
+unfoldable pub lone : ℕ → Bool
+lone w = eqb (bitAnd w (w - 1)) 0
+
+-- Of the bits w that y lacks of e: where there is none, the fixed positions of y that e leaves open; where there is one, its
+-- position, if y is fixed there.
+unfoldable pub openings-of : ℕ → ℕ → ℕ → ℕ
 openings-of w e y =
-    cond (eqb w 0) (bitXor (y .care) (bitAnd (y .care) (e .care))) (cond (eqb (bitAnd w (w - 1)) 0) (bitAnd w (y .care)) 0)
+    cond (eqb w 0) (bitXor (fixed-word y) (bitAnd (fixed-word y) (fixed-word e)))
+    (cond (lone w) (bitAnd (fixed-word w) (fixed-word y)) 0)
 
 -- The bits of w at the chosen positions among the lowest n, moved together, in rising order.
 unfoldable pub gather : ℕ → ℕ → ℕ → ℕ
 gather zero keep w = 0
 gather (suc n) keep w = cond (eqb (keep % 2) 1) (gather n (keep / 2) (w / 2) * 2 + w % 2) (gather n (keep / 2) (w / 2))
 
--- Both words cut to the chosen positions.
-unfoldable pub cut-words : ℕ → Entry → Entry
-cut-words keep a = record { care = gather 32 keep (a .care); value = gather 32 keep (a .value) }
+-- Both halves cut to the chosen positions.
+unfoldable pub cut-word : ℕ → ℕ → ℕ
+cut-word keep a = halves (gather 32 keep (high a)) (gather 32 keep (low a))

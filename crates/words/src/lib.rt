@@ -1,102 +1,133 @@
-// A ternary string as two words, and the operations on it. Inner: not a public call.
-// Each contract says what comes out for any words, and for the words of strings of any one length that it is the model's operation.
+// A ternary string as one word, and the operations on it. Inner: not a public call.
+// The zeros of a string are the high half of its word, its ones the low half; that serves every width from 1 to 32.
+// Each contract says what comes out for any words, and for the words of strings of any one length to 32 that it is the
+// model's operation.
 ghost use mathlib.Core.Path.{_≡_};
 ghost use mathlib.Core.Bool.{true, false};
+ghost use mathlib.Core.List.{map};
 ghost use Prim.Native.Nat.{_-_, _^_, _≤_, _<_};
-ghost use lib.ListN.{length};
+ghost use lib.Bits.{bitOr};
 ghost use lib.Count.{ones};
+ghost use lib.Dec.{eqb};
+ghost use lib.ListN.{length};
 ghost use Rattle.model.specs.Groups.{Bits, cut as cut-string};
 ghost use Rattle.model.specs.Strings.{Trits, subsumes as subsumes-string, matches as matches-string, meet as meet-string};
 ghost use Rattle.model.specs.Strings.{or-strings, all-zero, fixed as fixed-string, fixed-count, flipped as flipped-string};
-ghost use Rattle.model.specs.Strings.{starred as starred-string, opposed as opposed-string};
-ghost use Rattle.words.specs.Words.{word, set-word, subsumes-words, matches-words, meet-words, or-words, zero-words};
-ghost use Rattle.words.specs.Words.{key-of, key-words, of-key-words, within as within-word};
-ghost use Rattle.words.specs.Words.{fixed-words, flipped-words, starred-words, opposed-words};
-ghost use Rattle.words.specs.Words.{openings as openings-string, lacks-word, openings-of, gather, cut-words};
+ghost use Rattle.model.specs.Strings.{flip, starred as starred-string, opposed as opposed-string};
+ghost use Rattle.words.specs.Words.{entry as entry-string, word as word-string, set-word, word-of, entry-of, fixed-word};
+ghost use Rattle.words.specs.Words.{care-of, subsumes-word, matches-word, or-word, zero-word, starless as starless-string};
+ghost use Rattle.words.specs.Words.{both as both-halves, flipped-word, starred-word, opposite-word, opposed-word, lacks-word};
+ghost use Rattle.words.specs.Words.{lone, near as near-string, openings as openings-string, openings-of, gather, cut-word};
 
-// Bit i of `care` is 1 where position i is fixed; bit i of `value` is its value there, and 0 where it is `*`.
+// A half has 32 bits.
+const HALF: u64 = 4294967296;
+
+// As a table has a string: bit i of `care` is 1 where position i is fixed; bit i of `value` is its value there, and 0 where
+// it is `*`.
 pub struct Entry {
     pub care: u32,
     pub value: u32,
 }
 
-// Does a cover all that b covers?
-pub fn subsumes(a: Entry, b: Entry) -> bool
-    ensures words { λ r. ⌜ r ≡ subsumes-words a b ⌝ }
-    ensures strings { λ r. ⌜ ((s t : Trits) → length s ≡ length t → a ≡ word s → b ≡ word t → r ≡ subsumes-string s t) ⌝ }
+// The word of the string with this care and value.
+pub fn word_of(e: Entry) -> u64
+    ensures words { λ r. ⌜ r ≡ word-of e ⌝ }
+    ensures strings { λ r. ⌜ ((s : Trits) → e ≡ entry-string s → r ≡ word-string s) ⌝ }
 {
-    (((a.care & b.care) ^ a.care) | ((b.value & a.care) ^ a.value)) == 0
+    let z = e.care ^ e.value;
+    ((z as u64) << 32) | (e.value as u64)
 }
 
-// The key of a string of at most 16 positions: its zeros in the high half, its ones in the low half. One string subsumes
-// another exactly where its key is within the other's, which is one test of one word.
-pub fn key(a: Entry) -> u32
-    ensures words { λ r. ⌜ r ≡ key-words a ⌝ }
-    ensures strings { λ r. ⌜ ((s : Trits) → length s ≤ 16 → a ≡ word s → r ≡ key-of s) ⌝ }
+// The care and value of the string with this word.
+pub fn entry_of(a: u64) -> Entry
+    ensures words { λ r. ⌜ r ≡ entry-of a ⌝ }
+    ensures strings { λ r. ⌜ ((s : Trits) → length s ≤ 32 → a ≡ word-string s → r ≡ entry-string s) ⌝ }
 {
-    ((a.care ^ a.value) << 16) | a.value
-}
-
-// The string of at most 16 positions with the key k.
-pub fn of_key(k: u32) -> Entry
-    ensures words { λ r. ⌜ r ≡ of-key-words k ⌝ }
-    ensures strings { λ r. ⌜ ((s : Trits) → length s ≤ 16 → k ≡ key-of s → r ≡ word s) ⌝ }
-{
-    let ones = k % 65536;
+    let c = fixed(a);
     Entry {
-        care: (k >> 16) | ones,
-        value: ones,
+        care: c as u32,
+        value: (a % HALF) as u32,
     }
 }
 
-// Is the key a within the key b?
-pub fn within(a: u32, b: u32) -> bool
-    ensures words { λ r. ⌜ r ≡ within-word a b ⌝ }
+// The set of fixed positions.
+pub fn fixed(a: u64) -> u64
+    ensures words { λ r. ⌜ r ≡ fixed-word a ⌝ }
+    ensures below { λ r. ⌜ r < 2 ^ 32 ⌝ }
+    ensures strings { λ r. ⌜ ((s : Trits) → length s ≤ 32 → a ≡ word-string s → r ≡ care-of s) ⌝ }
+{
+    (a >> 32) | (a % HALF)
+}
+
+// Does a cover all that b covers?
+pub fn subsumes(a: u64, b: u64) -> bool
+    ensures words { λ r. ⌜ r ≡ subsumes-word a b ⌝ }
     ensures strings { λ r. ⌜
-        ((s t : Trits) → length s ≡ length t → length s ≤ 16 → a ≡ key-of s → b ≡ key-of t → r ≡ subsumes-string s t)
+        ((s t : Trits) → length s ≡ length t → length s ≤ 32 → a ≡ word-string s → b ≡ word-string t
+        → r ≡ subsumes-string s t)
         ⌝ }
 {
-    (a & b) == a
+    ((a & b) ^ a) == 0
 }
 
 // Are a and b equal at each position, or is one `*`?
-pub fn matches(a: Entry, b: Entry) -> bool
-    ensures words { λ r. ⌜ r ≡ matches-words a b ⌝ }
-    ensures strings { λ r. ⌜ ((s t : Trits) → length s ≡ length t → a ≡ word s → b ≡ word t → r ≡ matches-string s t) ⌝ }
+pub fn matches(a: u64, b: u64) -> bool
+    ensures words { λ r. ⌜ r ≡ matches-word a b ⌝ }
+    ensures strings { λ r. ⌜
+        ((s t : Trits) → length s ≡ length t → length s ≤ 32 → a ≡ word-string s → b ≡ word-string t → r ≡ matches-string s t)
+        ⌝ }
 {
-    (a.value & b.care) == (b.value & a.care)
+    let m = a | b;
+    ((m >> 32) & (m % HALF)) == 0
 }
 
 // The meet of strings that match.
-pub fn meet(a: Entry, b: Entry) -> Entry
-    ensures words { λ r. ⌜ r ≡ meet-words a b ⌝ }
-    ensures strings { λ r. ⌜ ((s t : Trits) → length s ≡ length t → a ≡ word s → b ≡ word t → r ≡ word (meet-string s t)) ⌝ }
+pub fn meet(a: u64, b: u64) -> u64
+    ensures words { λ r. ⌜ r ≡ bitOr a b ⌝ }
+    ensures strings { λ r. ⌜
+        ((s t : Trits) → length s ≡ length t → length s ≤ 32 → a ≡ word-string s → b ≡ word-string t
+        → matches-string s t ≡ true → r ≡ word-string (meet-string s t))
+        ⌝ }
 {
-    Entry {
-        care: a.care | b.care,
-        value: a.value | b.value,
-    }
+    a | b
 }
 
 // "a or b".
-pub fn or(a: Entry, b: Entry) -> Entry
-    ensures words { λ r. ⌜ r ≡ or-words a b ⌝ }
-    ensures strings { λ r. ⌜ ((s t : Trits) → length s ≡ length t → a ≡ word s → b ≡ word t → r ≡ word (or-strings s t)) ⌝ }
+pub fn or(a: u64, b: u64) -> u64
+    ensures words { λ r. ⌜ r ≡ or-word a b ⌝ }
+    ensures strings { λ r. ⌜
+        ((s t : Trits) → length s ≡ length t → length s ≤ 32 → a ≡ word-string s → b ≡ word-string t
+        → r ≡ word-string (or-strings s t))
+        ⌝ }
 {
-    let v = a.value | b.value;
-    Entry {
-        care: (a.care & b.care) | v,
-        value: v,
-    }
+    (((a >> 32) & (b >> 32)) << 32) | ((a | b) % HALF)
 }
 
-// Is a the all-zero string of l positions? The sum is in 64 bits, since care may be all ones.
-pub fn is_zero(l: u32, a: Entry) -> bool
+// The word of the all-zero string of l positions.
+pub fn zero(l: u32) -> u64
     requires { ⌜ l ≤ 32 ⌝ }
-    ensures words { λ r. ⌜ r ≡ zero-words l a ⌝ }
-    ensures strings { λ r. ⌜ ((s : Trits) → length s ≡ l → a ≡ word s → r ≡ all-zero s) ⌝ }
+    ensures words { λ r. ⌜ r ≡ zero-word l ⌝ }
+    ensures strings { λ r. ⌜ ((s : Trits) → length s ≡ l → all-zero s ≡ true → r ≡ word-string s) ⌝ }
 {
-    ((a.care as u64) + 1 == 1u64 << l) & (a.value == 0)
+    ((1u64 << l) - 1) << 32
+}
+
+// Is a the all-zero string of l positions?
+pub fn is_zero(l: u32, a: u64) -> bool
+    requires { ⌜ l ≤ 32 ⌝ }
+    ensures words { λ r. ⌜ r ≡ eqb a (zero-word l) ⌝ }
+    ensures strings { λ r. ⌜ ((s : Trits) → length s ≡ l → a ≡ word-string s → r ≡ all-zero s) ⌝ }
+{
+    a == zero(l)
+}
+
+// Has a, a string of l positions, no `*`?
+pub fn starless(l: u32, a: u64) -> bool
+    requires { ⌜ l ≤ 32 ⌝ }
+    ensures words { λ r. ⌜ r ≡ eqb (fixed-word a) (2 ^ l - 1) ⌝ }
+    ensures strings { λ r. ⌜ ((s : Trits) → length s ≡ l → a ≡ word-string s → r ≡ starless-string s) ⌝ }
+{
+    fixed(a) == (1u64 << l) - 1
 }
 
 // The word with a 1 at each of l positions.
@@ -107,81 +138,92 @@ pub fn full(l: u32) -> u32
     (((1u64 << l) - 1) % 4294967296) as u32
 }
 
-// Is position i fixed?
-pub fn fixed(a: Entry, i: u32) -> bool
+// Bit i in both halves.
+fn both(i: u32) -> u64
     requires { ⌜ i < 32 ⌝ }
-    ensures words { λ r. ⌜ r ≡ fixed-words i a ⌝ }
-    ensures strings { λ r. ⌜ ((s : Trits) → a ≡ word s → r ≡ fixed-string i s) ⌝ }
+    ensures { λ r. ⌜ r ≡ both-halves i ⌝ }
 {
-    (a.care & (1u32 << i)) != 0
+    let bit = 1u64 << i;
+    (bit << 32) | bit
 }
 
 // a with the value at the fixed position i flipped.
-pub fn flipped(a: Entry, i: u32) -> Entry
+pub fn flipped(a: u64, i: u32) -> u64
     requires { ⌜ i < 32 ⌝ }
-    ensures words { λ r. ⌜ r ≡ flipped-words i a ⌝ }
-    ensures strings { λ r. ⌜ ((s : Trits) → a ≡ word s → fixed-string i s ≡ true → r ≡ word (flipped-string i s)) ⌝ }
+    ensures words { λ r. ⌜ r ≡ flipped-word i a ⌝ }
+    ensures strings { λ r. ⌜
+        ((s : Trits) → length s ≤ 32 → a ≡ word-string s → fixed-string i s ≡ true → r ≡ word-string (flipped-string i s))
+        ⌝ }
 {
-    Entry {
-        care: a.care,
-        value: a.value ^ (1u32 << i),
-    }
+    a ^ both(i)
 }
 
-// a with `*` at the fixed position i.
-pub fn starred(a: Entry, i: u32) -> Entry
+// a with `*` at position i.
+pub fn starred(a: u64, i: u32) -> u64
     requires { ⌜ i < 32 ⌝ }
-    ensures words { λ r. ⌜ r ≡ starred-words i a ⌝ }
-    ensures strings { λ r. ⌜ ((s : Trits) → a ≡ word s → fixed-string i s ≡ true → r ≡ word (starred-string i s)) ⌝ }
+    ensures words { λ r. ⌜ r ≡ starred-word i a ⌝ }
+    ensures strings { λ r. ⌜
+        ((s : Trits) → length s ≤ 32 → a ≡ word-string s → r ≡ word-string (starred-string i s))
+        ⌝ }
 {
-    let c = a.care ^ (1u32 << i);
-    Entry {
-        care: c,
-        value: a.value & c,
-    }
+    a ^ (a & both(i))
+}
+
+// a with the value at each fixed position flipped.
+pub fn opposite(a: u64) -> u64
+    ensures words { λ r. ⌜ r ≡ opposite-word a ⌝ }
+    ensures strings { λ r. ⌜ ((s : Trits) → length s ≤ 32 → a ≡ word-string s → r ≡ word-string (map flip s)) ⌝ }
+{
+    ((a % HALF) << 32) | (a >> 32)
 }
 
 // y with the opposite of v at position i, where y has `*` and v is fixed.
-pub fn opposed(y: Entry, v: Entry, i: u32) -> Entry
+pub fn opposed(y: u64, v: u64, i: u32) -> u64
     requires { ⌜ i < 32 ⌝ }
-    ensures words { λ r. ⌜ r ≡ opposed-words i v y ⌝ }
+    ensures words { λ r. ⌜ r ≡ opposed-word i v y ⌝ }
     ensures strings { λ r. ⌜
-        ((s t : Trits) → length s ≡ length t → y ≡ word s → v ≡ word t
-        → fixed-string i s ≡ false → fixed-string i t ≡ true → r ≡ word (opposed-string i t s))
+        ((s t : Trits) → length s ≡ length t → length s ≤ 32 → y ≡ word-string s → v ≡ word-string t
+        → fixed-string i s ≡ false → fixed-string i t ≡ true → r ≡ word-string (opposed-string i t s))
         ⌝ }
 {
-    let bit = 1u32 << i;
-    Entry {
-        care: y.care | bit,
-        value: y.value | ((v.value & bit) ^ bit),
-    }
+    y | (opposite(v) & both(i))
 }
 
 // How many positions are fixed.
-pub fn fixed_count(a: Entry) -> u32
-    ensures words { λ r. ⌜ r ≡ ones (a .care) ⌝ }
-    ensures strings { λ r. ⌜ ((s : Trits) → a ≡ word s → r ≡ fixed-count s) ⌝ }
+pub fn fixed_count(a: u64) -> u32
+    ensures words { λ r. ⌜ r ≡ ones a ⌝ }
+    ensures strings { λ r. ⌜ ((s : Trits) → length s ≤ 32 → a ≡ word-string s → r ≡ fixed-count s) ⌝ }
 {
-    let c = a.care;
-    u32::count_ones(c)
+    u64::count_ones(a)
 }
 
-// The fixed positions of y at which y with that value flipped is subsumed by e: where e lacks nothing of y, those that e
-// leaves open; where e lacks one position at which y is fixed, that one.
-pub fn openings(e: Entry, y: Entry) -> u32
-    ensures words { λ r. ⌜ r ≡ openings-of (lacks-word e y) e y ⌝ }
+// Has y all that e has but for at most one position?
+pub fn near(e: u64, y: u64) -> bool
+    ensures words { λ r. ⌜ r ≡ lone (lacks-word e y) ⌝ }
     ensures strings { λ r. ⌜
-        ((s t : Trits) → length s ≡ length t → e ≡ word s → y ≡ word t → r ≡ set-word (openings-string s t))
+        ((s t : Trits) → length s ≡ length t → length s ≤ 32 → e ≡ word-string s → y ≡ word-string t → r ≡ near-string s t)
         ⌝ }
 {
-    let ec = e.care;
-    let yc = y.care;
-    let lacks = ((ec & yc) ^ ec) | ((y.value & ec) ^ e.value);
-    if lacks == 0 {
-        return yc ^ (yc & ec);
+    let w = (e & y) ^ e;
+    (w & std::num::wrapping_sub_u64(w, 1)) == 0
+}
+
+// The fixed positions of y at which y with that value flipped is subsumed by e: where y has all that e has, those that e
+// leaves open; where it lacks one position at which y is fixed, that one.
+pub fn openings(e: u64, y: u64) -> u64
+    ensures words { λ r. ⌜ r ≡ openings-of (lacks-word e y) e y ⌝ }
+    ensures strings { λ r. ⌜
+        ((s t : Trits) → length s ≡ length t → length s ≤ 32 → e ≡ word-string s → y ≡ word-string t
+        → r ≡ set-word (openings-string s t))
+        ⌝ }
+{
+    let w = (e & y) ^ e;
+    let care = fixed(y);
+    if w == 0 {
+        return care ^ (care & fixed(e));
     }
-    if (lacks & (lacks - 1)) == 0 {
-        return lacks & yc;
+    if (w & (w - 1)) == 0 {
+        return fixed(w) & care;
     }
     0
 }
@@ -205,15 +247,14 @@ fn gathered(keep: u32, w: u32) -> u32
 }
 
 // a cut to the positions of keep, in rising order.
-pub fn cut(keep: u32, a: Entry) -> Entry
-    ensures words { λ r. ⌜ r ≡ cut-words keep a ⌝ }
+pub fn cut(keep: u32, a: u64) -> u64
+    ensures words { λ r. ⌜ r ≡ cut-word keep a ⌝ }
     ensures strings { λ r. ⌜
-        ((k : Bits) (s : Trits) → length k ≡ length s → length s ≤ 32 → keep ≡ set-word k → a ≡ word s
-        → r ≡ word (cut-string k s))
+        ((k : Bits) (s : Trits) → length k ≡ length s → length s ≤ 32 → keep ≡ set-word k → a ≡ word-string s
+        → r ≡ word-string (cut-string k s))
         ⌝ }
 {
-    Entry {
-        care: gathered(keep, a.care),
-        value: gathered(keep, a.value),
-    }
+    let z = gathered(keep, (a >> 32) as u32);
+    let o = gathered(keep, (a % HALF) as u32);
+    ((z as u64) << 32) | (o as u64)
 }

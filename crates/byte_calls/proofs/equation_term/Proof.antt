@@ -42,8 +42,8 @@ tokens-at-requires c κs =
 slice-aggregate-tokens : tie.Need-slice-aggregate-tokens
 slice-aggregate-tokens c = search needs
 
-slice-aggregate-equation : tie.Need-slice-aggregate-equation
-slice-aggregate-equation c =
+slice-aggregate-equation-checked : tie.Need-slice-aggregate-equation-checked
+slice-aggregate-equation-checked c =
     let at-tokens-at = c .before .before in
     let at-enum-told2 = at-tokens-at .before in
     let at-check-bytes = at-enum-told2 .before .before in
@@ -53,8 +53,10 @@ slice-aggregate-equation c =
     let row = at-tokens-at .tokens-at .result in
     let long : length row ≡ 1024 = search needs in sym (length-take-le _ row (omega (arith, few, long)))
 
-equation-requires : tie.Need-equation-requires
-equation-requires c κs = search needs
+equation-checked-requires : tie.Need-equation-checked-requires
+equation-checked-requires c κs =
+    let at-enum-told = c .before .before .before .before .before .before in
+    at-enum-told .before .before .check .ensures .1 .0 (at-enum-told .enum-told .given .1)
 
 returns : tie.Need-returns
 returns c =
@@ -83,12 +85,12 @@ returns-3 c =
     let at-enum-told = at-check-bytes .before in
     let at-check = at-enum-told .before .before in
     let at-start = at-check .before .before in
-    c .equation .ensures ∙ term-went (side-of (at-start .args .side)) (at-start .args .t) (at-start .args .x)
+    c .equation-checked .ensures ∙ term-went (side-of (at-start .args .side)) (at-start .args .t) (at-start .args .x)
     (at-start .args .term .now) (sym (at-check .check .ensures .0) ∙ at-enum-told .enum-told .given .1)
     (sym (at-check-bytes .check-bytes .ensures) ∙ at-enum-told2 .enum-told2 .given .1) (at-tokens-at .tokens-at .ensures)
 
 pub equation-term-spec : {M : Type 1} → statement M
 equation-term-spec = tie.close
     (tie.spec check-requires enum-known-r refused-requires enum-told check-bytes-requires enum-known-r-2
-    refused-requires-2 enum-told-2 tokens-at-requires slice-aggregate-tokens slice-aggregate-equation equation-requires
+    refused-requires-2 enum-told-2 tokens-at-requires slice-aggregate-tokens slice-aggregate-equation-checked equation-checked-requires
     returns returns-2 returns-3)

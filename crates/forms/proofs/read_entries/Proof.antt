@@ -1,30 +1,26 @@
 use mathlib.Core.List.{[]}
-use mathlib.Core.Path.{sym, ap₂, _∙_}
+use mathlib.Core.Path.{sym, _∙_}
+use Prim.Native.Nat.{ℕ, _≤_}
 use native.Mathlib.Omega.{arith}
+use lib.ListN.{length-replicate}
 use borrow.Author.Tests.{not-true, not-false}
-use Rattle.tables.specs.Values.{all-clean}
-use Rattle.tables.proofs.Values.{holds-empty}
 use Rattle.tables.proofs.Checking.{width-most}
-use Rattle.forms.specs.Tables.{written-entries, read-entries}
-use Rattle.forms.proofs.Decoding.{same-clean, decoded}
+use Rattle.lists.proofs.Holding.{holds-empty}
+use Rattle.forms.specs.Tables.{read-entries}
 use borrow.Author.Needs.{needs}
 use Rattle.forms.proofs.read_entries.Statement.{statement}
 use Rattle.forms.proofs.read_entries.Tie as tie
 
-words-at-requires : tie.Need-words-at-requires
-words-at-requires c κs = search needs
+-- the start, from where the words are to be read
+abbrev start : tie.After-row → tie.Start
+start c = c .before .before
 
-mul-words-at : tie.Need-mul-words-at
-mul-words-at c = search needs
+-- the width, as lists have it
+short : (c : tie.After-row) → start c .args .l ≤ 32
+short c = omega (arith, width-most _ (start c .pre .0))
 
-add-words-at : tie.Need-add-words-at
-add-words-at c = search needs
-
-words-at-requires-2 : tie.Need-words-at-requires-2
-words-at-requires-2 c κs = search needs
-
-all-clean-requires : tie.Need-all-clean-requires
-all-clean-requires c κs = let w = width-most _ (c .before .before .before .before .before .pre .0) in omega arith
+read-words-requires : tie.Need-read-words-requires
+read-words-requires c κs = (short c, start c .pre .1, start c .pre .2)
 
 refused-requires : tie.Need-refused-requires
 refused-requires c κs = search needs
@@ -33,23 +29,10 @@ returns : tie.Need-returns
 unfolding read-entries
 returns c =
     let at-if1 = c .before in
-    let at-all-clean = at-if1 .before in
-    let at-words-at2 = at-all-clean .before .before .before in
-    let at-words-at = at-words-at2 .before in
-    let at-start = at-words-at .before .before in
-    let told = not-true _ (at-if1 .if1 .taken) in
-    rw (
-      c .refused .ensures,
-      sym
-          (same-clean (at-start .args .l) (at-start .args .n) (at-start .args .b .now) (omega arith)) ∙ ap₂ (all-clean _ _)
-          (sym (at-words-at .words-at .ensures)) (sym (at-words-at2 .words-at2 .ensures)) ∙ sym
-          (at-all-clean .all-clean .ensures) ∙ told,
-    )
+    rw (c .refused .ensures, sym (at-if1 .before .read-words .ensures .0) ∙ not-true _ (at-if1 .if1 .taken))
 
 grow-each-requires : tie.Need-grow-each-requires
-grow-each-requires c κs =
-    let at-start = c .before .before .before .before .before .before .before .before .before .before .before in
-    let w = width-most _ (at-start .pre .0) in omega arith
+grow-each-requires c κs = let w = short (c .before .before .before .before) in omega arith
 
 zero-requires : tie.Need-zero-requires
 zero-requires c κs = search needs
@@ -60,26 +43,20 @@ made-or-full-requires c κs = search needs
 returns-2 : tie.Need-returns-2
 unfolding read-entries
 returns-2 c =
-    let at-zero = c .before .before .before in
+    let at-zero = c .before .before in
     let at-grow-each = at-zero .before in
-    let at-if1 = at-grow-each .before .before .before .before .before in
-    let at-all-clean = at-if1 .before in
-    let at-words-at2 = at-all-clean .before .before .before in
-    let at-words-at = at-words-at2 .before in
-    let at-start = at-words-at .before .before in
-    let l = at-start .args .l in
-    let n = at-start .args .n in
-    let b = at-start .args .b .now in
-    let few = at-start .pre .1 in
-    let same = same-clean l n b few in
-    let passed = ap₂ (all-clean l n) (sym (at-words-at .words-at .ensures)) (sym (at-words-at2 .words-at2 .ensures)) ∙ sym
-    (at-all-clean .all-clean .ensures) ∙ not-false _ (at-if1 .if1 .left) in
-    let held = decoded l n b few passed in
-    let told = at-grow-each .grow-each .ensures .1 [] (written-entries l n b) (holds-empty l)
-    (rw (at-words-at .words-at .ensures, at-words-at2 .words-at2 .ensures) held) in
-    rw (c .made-or-full .ensures _ told, at-zero .zero .ensures, sym same ∙ passed)
+    let at-if1 = at-grow-each .before .before .before in
+    let at-read-words = at-if1 .before in
+    let read = at-read-words .read-words .ensures in
+    let good = not-false _ (at-if1 .if1 .left) in
+    let empty = holds-empty _ _ (length-replicate {A = ℕ} 256 0) (short (at-read-words .before)) in
+    rw (
+      c .made-or-full .ensures _ (at-grow-each .grow-each .ensures .1 [] _ empty (read .1 good)),
+      at-zero .zero .ensures,
+      sym (read .0) ∙ good,
+    )
 
 pub read-entries-spec : {M : Type 1} → statement M
-read-entries-spec = tie.close
-    (tie.spec words-at-requires mul-words-at add-words-at words-at-requires-2 all-clean-requires refused-requires returns
-    grow-each-requires zero-requires made-or-full-requires returns-2)
+read-entries-spec =
+    tie.close
+    (tie.spec read-words-requires refused-requires returns grow-each-requires zero-requires made-or-full-requires returns-2)

@@ -70,7 +70,9 @@ loop-again c =
     (omega arith, write-turn _ _ (at-loop .loop .inv .1) (start .pre .2) lt _ (c .read-string .ensures))
 
 returns : tie.Need-returns Inv-loop μ-loop
-returns c = let at-loop = c .before in write-end _ _ (at-loop .loop .inv .1) _ refl (omega arith)
+returns c =
+    let at-loop = c .before in
+    write-end _ _ (at-loop .loop .inv .1) _ (at-loop .before .before .pre .2) refl (omega arith)
 
 pub read-table-spec : {M : Type 1} → statement M
 read-table-spec =

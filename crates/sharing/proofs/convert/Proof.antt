@@ -2,8 +2,6 @@ use mathlib.Core.Path.{sym, _∙_}
 use native.Mathlib.Omega.{arith}
 use borrow.Author.Tests.{not-true, not-false}
 use Rattle.sharing.specs.Calls.{convert-call}
-use Rattle.tables.proofs.Values.{holds-empty}
-use Rattle.lists.proofs.Toward.{leaves-makes}
 use Rattle.tables.proofs.Checking.{width-most}
 use borrow.Author.Needs.{needs}
 use Rattle.sharing.proofs.convert.Statement.{statement}
@@ -36,7 +34,7 @@ returns-2 c =
 
 convert-requires : tie.Need-convert-requires
 convert-requires c κs =
-    let at-if1 = c .before .before .before .before in
+    let at-if1 = c .before .before .before in
     let few = width-most _ (sym (at-if1 .before .good-width .ensures) ∙ not-false _ (at-if1 .if1 .left)) in
     omega (arith, few)
 
@@ -49,12 +47,12 @@ made-or-full-requires c κs = search needs
 returns-3 : tie.Need-returns-3
 unfolding convert-call
 returns-3 c =
-    let at-zero = c .before .before .before in
+    let at-zero = c .before .before in
     let at-convert = at-zero .before in
-    let at-if2 = at-convert .before .before .before in
+    let at-if2 = at-convert .before .before in
     let at-if1 = at-if2 .before .before in
     let below = sym (at-if2 .before .all-below .ensures) ∙ not-false _ (at-if2 .if2 .left) in
-    let told = leaves-makes (at-convert .convert .ensures .1 (holds-empty _) below) in
+    let told = at-convert .convert .ensures .1 below in
     rw (
       c .made-or-full .ensures _ told,
       at-zero .zero .ensures,

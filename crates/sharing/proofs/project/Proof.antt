@@ -3,11 +3,10 @@ use mathlib.Core.Bool.{false}
 use borrow.Author.Tests.{not-true, not-false}
 use lib.Count.{ones}
 use Rattle.words.proofs.Codec.{set-length, set-word-set}
-use Rattle.tables.proofs.Values.{holds-empty}
-use Rattle.tables.proofs.Checking.{good-holds}
-use Rattle.candidates.proofs.Sets.{kept-ones}
+use Rattle.tables.specs.Values.{GoodTable}
+use Rattle.procedures.proofs.Sets.{kept-ones}
 use Rattle.sharing.specs.Calls.{after-check, good-keep, projected, projection-call}
-use Rattle.sharing.proofs.Answers.{good-few, good-wide, keep-test, keep-below}
+use Rattle.sharing.proofs.Answers.{good-few, good-wide, good-list, keep-test, keep-below}
 use borrow.Author.Needs.{needs}
 use Rattle.sharing.proofs.project.Statement.{statement}
 use Rattle.sharing.proofs.project.Tie as tie
@@ -24,8 +23,12 @@ refused-requires c κs = search needs
 enum-told : tie.Need-enum-told
 enum-told c = search needs
 
+-- the table is good
+checked : (c : tie.After-enum-told) → GoodTable (c .before .before .before .args .t2)
+checked c = c .before .before .check .ensures .1 .0 (c .enum-told .given .1)
+
 full-requires : tie.Need-full-requires
-full-requires c κs = good-wide (c .before .before .check .ensures .1 .0 (c .enum-told .given .1))
+full-requires c κs = good-wide (checked c)
 
 refused-requires-2 : tie.Need-refused-requires-2
 refused-requires-2 c κs = search needs
@@ -38,7 +41,7 @@ returns c =
     let at-check = at-enum-told .before .before in
     let start = at-check .before in
     let a = start .args in
-    let k : good-keep (a .t .l) (a .keep) ≡ false =
+    let k : good-keep (a .t2 .l) (a .keep) ≡ false =
     sym (keep-test _ _ _ (at-full .full .ensures)) ∙ not-true _ (c .before .if1 .taken) in
     rw (
       c .refused2 .ensures,
@@ -46,15 +49,20 @@ returns c =
       k,
     )
 
+-- where the set passed, from the list to be loaded
+abbrev passed : tie.After-given → tie.Else1
+passed c = c .before .before .before .before
+
+load-requires : tie.Need-load-requires
+load-requires c κs = good-few (checked (passed c .before .before))
+
 projection-list-requires : tie.Need-projection-list-requires
 projection-list-requires c κs =
-    let at-enum-told = c .before .before .before .before .before .before .before .before in
-    let at-check = at-enum-told .before .before in
-    let g = at-check .check .ensures .1 .0 (at-enum-told .enum-told .given .1) in
+    let g = checked (passed (c .before .before .before) .before .before) in
     (good-few g, good-wide g)
 
 made-or-full-requires : tie.Need-made-or-full-requires
-made-or-full-requires c κs = search needs
+made-or-full-requires c κs = c .before .projection-list .ensures .0
 
 returns-2 : tie.Need-returns-2
 unfolding projection-call after-check projected
@@ -66,15 +74,15 @@ returns-2 c =
 returns-3 : tie.Need-returns-3
 unfolding projection-call after-check projected
 returns-3 c =
-    let at-projection-list = c .before .before .before in
-    let at-if1 = at-projection-list .before .before .before .before .before .before .before in
+    let at-projection-list = c .before .before in
+    let at-load = at-projection-list .before .before .before in
+    let at-if1 = passed (at-load .before) in
     let at-full = at-if1 .before in
     let at-enum-told = at-full .before in
     let at-check = at-enum-told .before .before in
-    let g = at-check .check .ensures .1 .0 (at-enum-told .enum-told .given .1) in
     let k = sym (keep-test _ _ _ (at-full .full .ensures)) ∙ not-false _ (at-if1 .if1 .left) in
     let below = set-word-set _ _ (keep-below _ _ k) in
-    let told = at-projection-list .projection-list .ensures _ _ (good-holds g) (set-length _ _) (sym below) (holds-empty _) in
+    let told = at-projection-list .projection-list .ensures .1 _ _ (good-list (checked at-enum-told) (at-load .load .ensures)) (set-length _ _) (sym below) in
     rw (sym (at-check .check .ensures .0) ∙ at-enum-told .enum-told .given .1, k)
     (rw (ap ones (sym below) ∙ kept-ones _) at (c .made-or-full .ensures) _ told)
 
@@ -83,4 +91,4 @@ project-spec =
     tie.close
     (tie.spec
     check-requires enum-known-r refused-requires enum-told full-requires refused-requires-2 returns
-    projection-list-requires made-or-full-requires returns-2 returns-3)
+    load-requires projection-list-requires made-or-full-requires returns-2 returns-3)

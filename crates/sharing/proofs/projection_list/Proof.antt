@@ -1,4 +1,3 @@
-use native.Mathlib.Omega.{arith}
 use Rattle.model.specs.Tables.{projection}
 use borrow.Author.Needs.{needs}
 use Rattle.sharing.proofs.projection_list.Statement.{statement}
@@ -19,11 +18,13 @@ negative-requires c κs = search needs
 returns : tie.Need-returns
 unfolding projection
 returns c =
-    λ k τ h e is z. rw (c .before .before .before .enum-told .given .1)
-    (c .positive .ensures .1 k τ (rw e h) (omega (arith, e, c .before .before .before .before .before .pre .1)) is z)
+    let p = c .positive .ensures in
+    (p .0, λ k τ h e is. rw (c .before .before .enum-told .given .1) (p .1 k τ (rw e h) is))
 
 returns-2 : tie.Need-returns-2
-returns-2 c = λ k τ h e is z. rw (c .before .before .before .enum-told2 .given .1) (c .negative .ensures .1 k τ h e is z)
+returns-2 c =
+    let p = c .negative .ensures in
+    (p .0, λ k τ h e is. rw (c .before .before .enum-told2 .given .1) (p .1 k τ h e is))
 
 pub projection-list-spec : {M : Type 1} → statement M
 projection-list-spec =

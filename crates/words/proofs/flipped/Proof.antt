@@ -1,16 +1,16 @@
 use mathlib.Core.Path.{refl}
-use Rattle.words.specs.Words.{flipped-words}
-use Rattle.words.proofs.Positions.{one-shl, flipped-word}
+use Rattle.words.specs.Words.{flipped-word}
+use Rattle.words.proofs.Positions.{word-flipped}
 use borrow.Author.Needs.{needs}
 use Rattle.words.proofs.flipped.Statement.{statement}
 use Rattle.words.proofs.flipped.Tie as tie
 
-shl-t3 : tie.Need-shl-t3
-shl-t3 c = search needs
+both-requires : tie.Need-both-requires
+both-requires c κs = search needs
 
 returns : tie.Need-returns
-unfolding flipped-words
-returns c = rw (one-shl (c .before .args .i) 32 (search needs)) (refl, λ s ea k. rw ea (flipped-word _ s k))
+unfolding flipped-word
+returns c = rw (c .both .ensures) (refl, λ s short ea k. rw ea (word-flipped (c .before .args .i) (c .before .pre) s short k))
 
 pub flipped-spec : {M : Type 1} → statement M
-flipped-spec = tie.close (tie.spec shl-t3 returns)
+flipped-spec = tie.close (tie.spec both-requires returns)

@@ -1,24 +1,14 @@
 use mathlib.Core.Path.{refl}
-use native.Mathlib.Omega.{arith}
-use Rattle.words.specs.Words.{zero-words}
-use Rattle.words.proofs.Words.{zero-word}
-use Rattle.words.proofs.Positions.{one-shl}
+use Rattle.words.proofs.Words.{word-zero}
 use borrow.Author.Needs.{needs}
 use Rattle.words.proofs.is_zero.Statement.{statement}
 use Rattle.words.proofs.is_zero.Tie as tie
 
-cast-result : tie.Need-cast-result
-cast-result c = search needs
-
-add-result : tie.Need-add-result
-add-result c = search needs
-
-shl-result : tie.Need-shl-result
-shl-result c = search needs
+zero-requires : tie.Need-zero-requires
+zero-requires c κs = search needs
 
 returns : tie.Need-returns
-unfolding zero-words
-returns c = rw (one-shl (c .before .before .args .l) 64 (omega arith)) (refl, λ s n ea. rw (ea, ← n) (zero-word s))
+returns c = rw (c .zero .ensures .0) (refl, λ s n ea. rw (ea, ← n) (word-zero s (rw n (c .before .pre))))
 
 pub is-zero-spec : {M : Type 1} → statement M
-is-zero-spec = tie.close (tie.spec cast-result add-result shl-result returns)
+is-zero-spec = tie.close (tie.spec zero-requires returns)

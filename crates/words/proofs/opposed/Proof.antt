@@ -1,18 +1,22 @@
 use mathlib.Core.Path.{refl}
-use Rattle.words.specs.Words.{opposed-words}
-use Rattle.words.proofs.Positions.{one-shl, opposed-word}
+use Rattle.words.specs.Words.{opposed-word}
+use Rattle.words.proofs.Positions.{word-opposed}
 use borrow.Author.Needs.{needs}
 use Rattle.words.proofs.opposed.Statement.{statement}
 use Rattle.words.proofs.opposed.Tie as tie
 
-shl-bit : tie.Need-shl-bit
-shl-bit c = search needs
+opposite-requires : tie.Need-opposite-requires
+opposite-requires c κs = search needs
+
+both-requires : tie.Need-both-requires
+both-requires c κs = search needs
 
 returns : tie.Need-returns
-unfolding opposed-words
+unfolding opposed-word
 returns c =
-    rw (one-shl (c .before .before .before .args .i) 32 (search needs))
-    (refl, λ s t n es et k h. rw (es, et) (opposed-word _ t s n k h))
+    let start = c .before .before in
+    rw (c .before .opposite .ensures .0, c .both .ensures)
+    (refl, λ s t n short es et k h. rw (es, et) (word-opposed (start .args .i) (start .pre) t s n short k))
 
 pub opposed-spec : {M : Type 1} → statement M
-opposed-spec = tie.close (tie.spec shl-bit returns)
+opposed-spec = tie.close (tie.spec opposite-requires both-requires returns)

@@ -1,12 +1,18 @@
-use mathlib.Core.Path.{refl}
-use Rattle.words.specs.Words.{or-words}
-use Rattle.words.proofs.Words.{or-word}
+use mathlib.Core.Path.{_∙_}
+use lib.Bits.{bitOr, and-lt}
+use Rattle.words.specs.Words.{or-word}
+use Rattle.words.proofs.Halves.{joined, high-lt, low-lt}
+use Rattle.words.proofs.Words.{word-or}
 use Rattle.words.proofs.or.Statement.{statement}
 use Rattle.words.proofs.or.Tie as tie
 
 returns : tie.Need-returns
-unfolding or-words
-returns c = (refl, λ s t n ea eb. rw (ea, eb) (or-word s t n))
+unfolding or-word
+returns c =
+    let a = c .args .a in
+    let b = c .args .b in
+    let is = joined _ _ (and-lt 32 _ _ (high-lt a (c .fits .a .fits)) (high-lt b (c .fits .b .fits))) (low-lt (bitOr a b)) in
+    (is, λ s t n short ea eb. is ∙ rw (ea, eb) (word-or s t n short))
 
 pub or-spec : {M : Type 1} → statement M
 or-spec = tie.close (tie.spec returns)

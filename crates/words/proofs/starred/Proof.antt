@@ -1,16 +1,16 @@
 use mathlib.Core.Path.{refl}
-use Rattle.words.specs.Words.{starred-words}
-use Rattle.words.proofs.Positions.{one-shl, starred-word}
+use Rattle.words.specs.Words.{starred-word}
+use Rattle.words.proofs.Positions.{word-starred}
 use borrow.Author.Needs.{needs}
 use Rattle.words.proofs.starred.Statement.{statement}
 use Rattle.words.proofs.starred.Tie as tie
 
-shl-c : tie.Need-shl-c
-shl-c c = search needs
+both-requires : tie.Need-both-requires
+both-requires c κs = search needs
 
 returns : tie.Need-returns
-unfolding starred-words
-returns c = rw (one-shl (c .before .before .args .i) 32 (search needs)) (refl, λ s ea k. rw ea (starred-word _ s k))
+unfolding starred-word
+returns c = rw (c .both .ensures) (refl, λ s short ea. rw ea (word-starred (c .before .args .i) (c .before .pre) s short))
 
 pub starred-spec : {M : Type 1} → statement M
-starred-spec = tie.close (tie.spec shl-c returns)
+starred-spec = tie.close (tie.spec both-requires returns)

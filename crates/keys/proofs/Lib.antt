@@ -1,3 +1,0 @@
-pub mod Keyed
-pub mod Zero
-pub mod Passing

@@ -1,0 +1,95 @@
+use mathlib.Core.Path.{_≡_, refl}
+use mathlib.Core.Bool.{true}
+use mathlib.Core.List.{map}
+use Prim.Native.Nat.{_-_, _≤_}
+use native.Mathlib.Omega.{arith}
+use borrow.Author.Needs.{needs}
+use lib.ListN.{length, length-map}
+use Rattle.model.specs.Growth.{convert-one, convert}
+use Rattle.words.specs.Words.{set}
+use Rattle.lists.specs.Lists.{all-below, stops}
+use Rattle.lists.proofs.Holding.{holds-empty, within-count}
+use Rattle.lists.proofs.Toward.{Toward, toward-start, toward-step, toward-stop, toward-end}
+use Rattle.lists.proofs.Converting.{row-word, row-length}
+use Rattle.lists.proofs.conversion.convert.Statement.{statement}
+use Rattle.lists.proofs.conversion.convert.Tie as tie
+
+abbrev Inv-loop : tie.InvT-loop
+Inv-loop list₀ l words near₀ n₀ i₀ list near n i =
+    (i ≤ length words) × (n ≤ 256)
+    × (all-below l words ≡ true
+    → Toward l convert-one (map (set l) words) (set l 0) (convert (map (set l) words)) list n i)
+
+abbrev μ-loop : tie.MeasureT-loop
+μ-loop list₀ l words near₀ n₀ i₀ list near n i = length words - i
+
+loop-holds : tie.Need-loop-holds Inv-loop μ-loop
+unfolding convert
+loop-holds c = (
+  omega arith,
+  omega arith,
+  λ b. toward-start _ convert-one _ (set _ 0) _ (holds-empty _ _ (c .whole2 .given .0) (omega arith)) refl,
+)
+
+mul-convert-one : tie.Need-mul-convert-one Inv-loop μ-loop
+mul-convert-one c = search needs
+
+shared-slice-read-convert-one : tie.Need-shared-slice-read-convert-one Inv-loop μ-loop
+shared-slice-read-convert-one c = search needs
+
+convert-one-requires : tie.Need-convert-one-requires Inv-loop μ-loop
+convert-one-requires c κs = search needs
+
+enum-known-k : tie.Need-enum-known-k Inv-loop μ-loop
+enum-known-k c = search needs
+
+enum-told : tie.Need-enum-told Inv-loop μ-loop
+enum-told c = search needs
+
+returns : tie.Need-returns Inv-loop μ-loop
+returns c = (
+  tt,
+  λ b.
+      let at-convert-one = c .before .before in
+      let at-loop = at-convert-one .before .before .before .before .before in
+      let ws = at-loop .before .before .before .before .args .words in
+      let i = at-loop .loop .i in
+      let w = at-loop .loop .inv .2 b in
+      let told = at-convert-one .convert-one .ensures .1 _ _ (w .held) (row-length _ (ws .now) i)
+      (row-word _ (ws .now) i b (omega arith)) in
+      rw (toward-stop _ convert-one _ _ _ w (rw length-map (omega arith)) told (c .enum-told .given .1)) stops,
+)
+
+add-i : tie.Need-add-i Inv-loop μ-loop
+add-i c = search needs
+
+loop-less : tie.Need-loop-less Inv-loop μ-loop
+loop-less c = search needs
+
+loop-again : tie.Need-loop-again Inv-loop μ-loop
+loop-again c =
+    let at-convert-one = c .before .before .before in
+    let at-loop = at-convert-one .before .before .before .before .before in
+    let ws = at-loop .before .before .before .before .args .words in
+    let i = at-loop .loop .i in
+    let is = c .before .k .given .1 in (
+      omega arith,
+      within-count (at-convert-one .convert-one .ensures .0) is,
+      λ b.
+          let w = at-loop .loop .inv .2 b in
+          let told = at-convert-one .convert-one .ensures .1 _ _ (w .held) (row-length _ (ws .now) i)
+          (row-word _ (ws .now) i b (omega arith)) in
+          toward-step _ convert-one _ _ _ w (rw length-map (omega arith)) told is,
+    )
+
+returns-2 : tie.Need-returns-2 Inv-loop μ-loop
+returns-2 c =
+    let lp = c .before .loop in
+    (lp .inv .1, λ b. toward-end _ convert-one _ _ _ (lp .inv .2 b) (rw length-map (omega arith)))
+
+pub convert-spec : {M : Type 1} → statement M
+convert-spec =
+    tie.close
+    (tie.spec
+    Inv-loop μ-loop loop-holds mul-convert-one shared-slice-read-convert-one convert-one-requires enum-known-k enum-told
+    returns add-i loop-less loop-again returns-2)

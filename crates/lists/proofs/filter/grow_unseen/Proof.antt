@@ -1,0 +1,136 @@
+use mathlib.Core.Path.{_≡_, refl, sym, _∙_}
+use mathlib.Core.List.{[]}
+use mathlib.Core.Option.{none}
+use Prim.Native.Nat.{ℕ, _-_, _≤_}
+use native.Mathlib.Omega.{arith}
+use lib.ListN.{getD}
+use Rattle.model.specs.Growth.{Entries, grow-all}
+use Rattle.lists.specs.Lists.{Holds, stops}
+use Rattle.lists.specs.Filters.{Filters}
+use Rattle.lists.proofs.Holding.{holds-length, within-count}
+use Rattle.lists.proofs.Idling.{Onward, onward-start, onward-to, onward-step, onward-stop, onward-makes}
+use Rattle.lists.proofs.Idling.{onward-filter}
+use borrow.Author.Needs.{needs}
+use Rattle.lists.proofs.filter.grow_unseen.Statement.{statement}
+use Rattle.lists.proofs.filter.grow_unseen.Tie as tie
+
+abbrev Inv-loop : tie.InvT-loop
+Inv-loop list₀ n l row m seen₀ k₀ j₀ list seen k j =
+    (j ≤ m) × (k ≤ 256)
+    × ((τ ρ : Entries) → Holds l list₀ n τ → Holds l row m ρ → Filters l seen₀ τ → Onward l ρ (grow-all τ ρ) list k j seen)
+
+abbrev μ-loop : tie.MeasureT-loop
+μ-loop list₀ n l row m seen₀ k₀ j₀ list seen k j = m - j
+
+unseen-requires : tie.Need-unseen-requires Inv-loop μ-loop
+unseen-requires c κs = search needs
+
+loop-holds : tie.Need-loop-holds Inv-loop μ-loop
+unfolding grow-all
+loop-holds c =
+    let u = c .unseen .ensures in
+    (u .1, omega arith, λ τ ρ h y f. onward-to _ ρ _ (onward-start _ ρ _ h refl f) y _ (u .0) (u .1) (u .2))
+
+mul-y : tie.Need-mul-y Inv-loop μ-loop
+mul-y c = search needs
+
+element-copy-out-y : tie.Need-element-copy-out-y Inv-loop μ-loop
+element-copy-out-y c = search needs
+
+grow-requires : tie.Need-grow-requires Inv-loop μ-loop
+grow-requires c κs = search needs
+
+enum-known-c : tie.Need-enum-known-c Inv-loop μ-loop
+enum-known-c c = search needs
+
+enum-told : tie.Need-enum-told Inv-loop μ-loop
+enum-told c = search needs
+
+-- what a full list says of the whole
+full : (c : tie.After-enum-told Inv-loop μ-loop) (τ ρ : Entries)
+    → (let a = c .before .before .before .before .before .before .before .before .before .args in
+    Holds (a .l) (a .list .now) (a .n) τ → Holds (a .l) (a .row .now) (a .m) ρ → Filters (a .l) (a .seen .now) τ
+    → grow-all τ ρ ≡ none)
+full c τ ρ h y f =
+    let at-grow = c .before .before in
+    let lp = at-grow .before .before .before .before .loop in
+    let w = lp .inv .2 τ ρ h y f in
+    let told = at-grow .grow .ensures .1 _ (getD ρ (lp .j) []) (w .held) (holds-length y (lp .j) (omega arith))
+    (y .here (lp .j) (omega arith)) in
+    onward-stop _ ρ _ w y (omega arith) told (c .enum-told .given .1)
+
+returns : tie.Need-returns Inv-loop μ-loop
+returns c = (
+  tt,
+  (
+    λ τ ρ h y f. rw (full c τ ρ h y f) stops,
+    λ τ ρ κ h y f e. absurd (let q = sym (full c τ ρ h y f) ∙ e in let z : _≡_ {A = ℕ} 0 1 = cc in omega arith),
+  ),
+)
+
+slot-requires : tie.Need-slot-requires Inv-loop μ-loop
+slot-requires c κs = search needs
+
+mul-seen : tie.Need-mul-seen Inv-loop μ-loop
+mul-seen c = search needs
+
+element-write-seen : tie.Need-element-write-seen Inv-loop μ-loop
+element-write-seen c = search needs
+
+add-unseen : tie.Need-add-unseen Inv-loop μ-loop
+add-unseen c = search needs
+
+unseen-requires-2 : tie.Need-unseen-requires-2 Inv-loop μ-loop
+unseen-requires-2 c κs = search needs
+
+loop-less : tie.Need-loop-less Inv-loop μ-loop
+loop-less c = search needs
+
+loop-again : tie.Need-loop-again Inv-loop μ-loop
+loop-again c =
+    let at-slot = c .before .before in
+    let at-grow = at-slot .before .before .before .before in
+    let lp = at-grow .before .before .before .before .loop in
+    let is = at-slot .before .before .c .given .1 in
+    let u = c .unseen2 .ensures in (
+      u .1,
+      within-count (at-grow .grow .ensures .0) is,
+      λ τ ρ h y f.
+          let w = lp .inv .2 τ ρ h y f in
+          let told = at-grow .grow .ensures .1 _ (getD ρ (lp .j) []) (w .held) (holds-length y (lp .j) (omega arith))
+          (y .here (lp .j) (omega arith)) in
+          onward-to _ ρ _ (onward-step _ ρ _ w y (omega arith) told is (at-slot .slot .ensures)) y _ (u .0) (u .1) (u .2),
+    )
+
+returns-2 : tie.Need-returns-2 Inv-loop μ-loop
+returns-2 c =
+    let lp = c .before .loop in (
+      lp .inv .1,
+      (
+        λ τ ρ h y f. onward-makes _ ρ _ (lp .inv .2 τ ρ h y f) (omega (arith, y .count)),
+        λ τ ρ κ h y f e. onward-filter _ ρ _ (lp .inv .2 τ ρ h y f) (omega (arith, y .count)) e,
+      ),
+    )
+
+pub grow-unseen-spec : {M : Type 1} → statement M
+grow-unseen-spec =
+    tie.close
+    (tie.spec
+    Inv-loop
+    μ-loop
+    unseen-requires
+    loop-holds
+    mul-y
+    element-copy-out-y
+    grow-requires
+    enum-known-c
+    enum-told
+    returns
+    slot-requires
+    mul-seen
+    element-write-seen
+    add-unseen
+    unseen-requires-2
+    loop-less
+    loop-again
+    returns-2)

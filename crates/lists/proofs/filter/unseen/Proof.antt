@@ -1,0 +1,71 @@
+use Prim.Native.Nat.{_-_, _≤_}
+use native.Mathlib.Omega.{arith}
+use Rattle.lists.specs.Filters.{Seen}
+use Rattle.lists.proofs.Idling.{seen-more}
+use borrow.Author.Needs.{needs}
+use Rattle.lists.proofs.filter.unseen.Statement.{statement}
+use Rattle.lists.proofs.filter.unseen.Tie as tie
+
+abbrev Inv-loop : tie.InvT-loop
+Inv-loop row j m seen i₀ i = (j ≤ i) × (i ≤ m) × Seen row seen j i
+
+abbrev μ-loop : tie.MeasureT-loop
+μ-loop row j m seen i₀ i = m - i
+
+loop-holds : tie.Need-loop-holds Inv-loop μ-loop
+loop-holds c = (omega arith, c .pre .0, λ i le lt. absurd (omega arith))
+
+mul-y : tie.Need-mul-y Inv-loop μ-loop
+mul-y c = search needs
+
+element-copy-out-y : tie.Need-element-copy-out-y Inv-loop μ-loop
+element-copy-out-y c = search needs
+
+slot-requires : tie.Need-slot-requires Inv-loop μ-loop
+slot-requires c κs = search needs
+
+mul-if1 : tie.Need-mul-if1 Inv-loop μ-loop
+mul-if1 c = search needs
+
+element-copy-out-if1 : tie.Need-element-copy-out-if1 Inv-loop μ-loop
+element-copy-out-if1 c = search needs
+
+returns : tie.Need-returns Inv-loop μ-loop
+returns c = c .before .before .before .before .before .loop .inv
+
+add-i : tie.Need-add-i Inv-loop μ-loop
+add-i c = search needs
+
+loop-less : tie.Need-loop-less Inv-loop μ-loop
+loop-less c = search needs
+
+loop-again : tie.Need-loop-again Inv-loop μ-loop
+loop-again c =
+    let at-slot = c .before .before in
+    let lp = at-slot .before .before .before .loop in
+    let a = at-slot .before .before .before .before .args in (
+      omega arith,
+      omega arith,
+      seen-more (a .row .now) (a .seen .now) _ (lp .i) _ (lp .inv .2) (at-slot .slot .ensures) (c .if1 .left),
+    )
+
+returns-2 : tie.Need-returns-2 Inv-loop μ-loop
+returns-2 c = c .before .loop .inv
+
+pub unseen-spec : {M : Type 1} → statement M
+unseen-spec =
+    tie.close
+    (tie.spec
+    Inv-loop
+    μ-loop
+    loop-holds
+    mul-y
+    element-copy-out-y
+    slot-requires
+    mul-if1
+    element-copy-out-if1
+    returns
+    add-i
+    loop-less
+    loop-again
+    returns-2)

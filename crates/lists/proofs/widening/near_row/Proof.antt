@@ -1,0 +1,75 @@
+use mathlib.Core.Path.{sym, _∙_}
+use mathlib.Core.List.{[]}
+use mathlib.Core.Logic.{⊎-elim}
+use Prim.Native.Nat.{ℕ, _-_, _≤_}
+use native.Mathlib.Omega.{arith}
+use borrow.Author.Needs.{needs}
+use lib.ListN.{getD, take}
+use Rattle.lists.specs.Lists.{Holds, OfString, near-list}
+use Rattle.lists.proofs.Holding.{holds-empty, holds-length}
+use Rattle.lists.proofs.Near.{near-add, near-pass, near-end}
+use Rattle.lists.proofs.widening.near_row.Statement.{statement}
+use Rattle.lists.proofs.widening.near_row.Tie as tie
+
+abbrev Inv-loop : tie.InvT-loop
+Inv-loop list n y near₀ k₀ i₀ near k i =
+    (i ≤ n) × (k ≤ i) × ((l : ℕ) → OfString l list n y (λ τ s. Holds l near k (near-list (take i τ) s)))
+
+abbrev μ-loop : tie.MeasureT-loop
+μ-loop list n y near₀ k₀ i₀ near k i = n - i
+
+loop-holds : tie.Need-loop-holds Inv-loop μ-loop
+unfolding near-list
+loop-holds c = (omega arith, omega arith, λ l τ s h e y. holds-empty l _ (c .whole2 .given .0) (h .short))
+
+mul-e : tie.Need-mul-e Inv-loop μ-loop
+mul-e c = search needs
+
+element-copy-out-e : tie.Need-element-copy-out-e Inv-loop μ-loop
+element-copy-out-e c = search needs
+
+mul-near : tie.Need-mul-near Inv-loop μ-loop
+mul-near c = search needs
+
+element-write-near : tie.Need-element-write-near Inv-loop μ-loop
+element-write-near c = search needs
+
+near-requires : tie.Need-near-requires Inv-loop μ-loop
+near-requires c κs = search needs
+
+add-k : tie.Need-add-k Inv-loop μ-loop
+add-k c = search needs
+
+add-i : tie.Need-add-i Inv-loop μ-loop
+add-i c = search needs
+
+loop-less : tie.Need-loop-less Inv-loop μ-loop
+loop-less c = search needs
+
+loop-again : tie.Need-loop-again Inv-loop μ-loop
+loop-again c =
+    let w = c .before .before .before .before .loop in (
+      omega arith,
+      ⊎-elim (λ v. omega (arith, v .1)) (λ v. omega (arith, v .1)) (c .if1 .came),
+      λ l τ s h e y.
+          let d = holds-length h (w .i) (omega arith) in
+          let m = c .before .near .ensures .1 (getD τ (w .i) []) s (d ∙ sym e) (omega (arith, h .short))
+          (h .here (w .i) (omega arith)) y in
+          let p = w .inv .2 l τ s h e y in
+          ⊎-elim
+          (λ u. rw (u .1) (near-add h s p (omega arith) (sym m ∙ u .0 .taken) (w .inv .1)))
+          (λ u. rw (u .1) (near-pass h s p (omega arith) (sym m ∙ u .0 .left)))
+          (c .if1 .came),
+    )
+
+returns : tie.Need-returns Inv-loop μ-loop
+returns c =
+    let w = c .before .loop in
+    (omega arith, λ l τ s h e y. near-end h s (w .inv .2 l τ s h e y) (omega arith) (w .inv .0))
+
+pub near-row-spec : {M : Type 1} → statement M
+near-row-spec =
+    tie.close
+    (tie.spec
+    Inv-loop μ-loop loop-holds mul-e element-copy-out-e mul-near element-write-near near-requires add-k add-i loop-less
+    loop-again returns)

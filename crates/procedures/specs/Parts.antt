@@ -1,0 +1,55 @@
+-- Parts of the procedures that the code has functions of its own for.
+use mathlib.Core.Path.{_≡_}
+use mathlib.Core.Bool.{cond}
+use mathlib.Core.List.{List, [], _∷_}
+use mathlib.Core.Option.{Option}
+use Prim.Native.Nat.{ℕ}
+use lib.ListN.{length}
+use Rattle.model.specs.Groups.{Bits}
+use Rattle.model.specs.Strings.{Trits, matches, zeros, pieces}
+use Rattle.model.specs.Growth.{_>>=_, fold, Entries, grow, widen-grow}
+use Rattle.model.specs.Tables.{relevant, cross, close, change-side}
+use Rattle.words.specs.Words.{set-word}
+use Rattle.lists.specs.Lists.{Holds}
+
+-- ---- Change of side
+
+-- The entries that match v, in order.
+unfoldable pub matched : Trits → Entries → Entries
+matched v [] = []
+matched v (y ∷ τ) = cond (matches y v) (y ∷ matched v τ) (matched v τ)
+
+-- The pieces of y that v leaves, widened and grown.
+unfoldable pub grow-pieces : Trits → Entries → Trits → Option Entries
+grow-pieces v τ y = fold widen-grow τ (pieces y v)
+
+-- ---- Equations
+
+-- P of any list of strings of l positions that the array holds, and any two sets of l variables with the words mx and mt.
+abbrev pub OfSets : (l : ℕ) (list : List ℕ) (n mx mt : ℕ) → (Entries → Bits → Bits → Type 0) → Type 0
+OfSets l list n mx mt P =
+    (τ : Entries) (x t : Bits) → Holds l list n τ → length x ≡ l → length t ≡ l → mx ≡ set-word x → mt ≡ set-word t
+    → P τ x t
+
+-- close(cross(α, β)).
+unfoldable pub closed-cross : Entries → Entries → Option Entries
+closed-cross α β = cross α β >>= close
+
+-- The joined entries of a positive table: close(cross(relevant x, relevant t)).
+unfoldable pub positive-joined : Bits → Bits → Entries → Option Entries
+positive-joined x t τ = do
+  A ← relevant x τ
+  B ← relevant t τ
+  closed-cross A B
+
+-- The groups of a negative table that have a variable of the set k, on the positive side: P or Q, changed.
+unfoldable pub having-set : ℕ → Bits → Entries → Option Entries
+having-set l k τ = grow τ (zeros k) >>= change-side l
+
+-- The joined groups of a negative table, changed back: K.
+unfoldable pub negative-joined : ℕ → Bits → Bits → Entries → Option Entries
+negative-joined l x t τ = do
+  A ← having-set l x τ
+  B ← having-set l t τ
+  R ← closed-cross A B
+  change-side l R

@@ -1,0 +1,181 @@
+// Abstract unification, of either side. Inner: not a public call.
+use crate::Pairing;
+use lists::Grown;
+ghost use mathlib.Core.Path.{_≡_};
+ghost use Prim.Native.Nat.{_≤_};
+ghost use lib.ListN.{length};
+ghost use Rattle.model.specs.Groups.{Bits};
+ghost use Rattle.model.specs.Strings.{ones};
+ghost use Rattle.model.specs.Growth.{Entries, grow-all};
+ghost use Rattle.model.specs.Tables.{positive-equation, negative-equation};
+ghost use Rattle.words.specs.Words.{set-word};
+ghost use Rattle.lists.specs.Lists.{Holds, Within, Makes};
+ghost use Rattle.procedures.specs.Parts.{OfSets, closed-cross, positive-joined, having-set, negative-joined};
+
+// The closed cross of the lists a and b, made in a. `c` and `row` are room.
+fn joined(
+    a: &mut [u64; 256],
+    an: usize,
+    b: &[u64; 256],
+    bn: usize,
+    l: u32,
+    c: &mut [u64; 256],
+    row: &mut [u64; 256],
+) -> Grown
+    requires { ⌜ (an ≤ 256) × (bn ≤ 256) × (l ≤ 32) ⌝ }
+    ensures within { λ r. ⌜ Within r ⌝ }
+    ensures made { λ r. ⌜
+        ((α β : Entries) → Holds l (now (a .entry)) an α → Holds l (now (b .entry)) bn β
+        → Makes l (now (a .exit)) r (closed-cross α β))
+        ⌝ }
+{
+    match crate::pairs::pairs(Pairing::Or, a, an, b, bn, l, c, row) {
+        Grown::Count(k) => crate::closing::close(c, k, l, a, row),
+        Grown::Full => Grown::Full,
+    }
+}
+
+// The joined entries of a positive table: the closed cross of the relevant ones. `other` and `row` are room.
+fn positive_joined(
+    t: &[u64; 256],
+    tn: usize,
+    l: u32,
+    mx: u32,
+    mt: u32,
+    list: &mut [u64; 256],
+    other: &mut [u64; 256],
+    row: &mut [u64; 256],
+) -> Grown
+    requires { ⌜ (tn ≤ 256) × (l ≤ 32) ⌝ }
+    ensures within { λ r. ⌜ Within r ⌝ }
+    ensures made { λ r. ⌜
+        OfSets l (now (t .entry)) tn mx mt (λ τ x t. Makes l (now (list .exit)) r (positive-joined x t τ))
+        ⌝ }
+{
+    let mut b = [0u64; 256];
+    match crate::pairs::relevant(t, tn, l, mx, list, other, row) {
+        Grown::Count(an) => match crate::pairs::relevant(t, tn, l, mt, &mut b, other, row) {
+            Grown::Count(bn) => joined(list, an, &b, bn, l, other, row),
+            Grown::Full => Grown::Full,
+        },
+        Grown::Full => Grown::Full,
+    }
+}
+
+// Equation, positive, for x alone in mx and t's variables in mt.
+pub fn positive(t: &[u64; 256], tn: usize, l: u32, mx: u32, mt: u32, list: &mut [u64; 256]) -> Grown
+    requires { ⌜ (tn ≤ 256) × (l ≤ 32) ⌝ }
+    ensures within { λ r. ⌜ Within r ⌝ }
+    ensures made { λ r. ⌜
+        OfSets l (now (t .entry)) tn mx mt (λ τ x t. Makes l (now (list .exit)) r (positive-equation x t τ))
+        ⌝ }
+{
+    let mut joins = [0u64; 256];
+    let mut other = [0u64; 256];
+    let mut row = [0u64; 256];
+    match crate::pairs::irrelevant(t, tn, l, mx | mt, list, &mut other, &mut row) {
+        Grown::Count(n) => {
+            match positive_joined(t, tn, l, mx, mt, &mut joins, &mut other, &mut row) {
+                Grown::Count(k) => lists::growth::grow_each(list, n, l, &joins, k),
+                Grown::Full => Grown::Full,
+            }
+        }
+        Grown::Full => Grown::Full,
+    }
+}
+
+// The groups of a negative table that have a variable of the set m, as a positive list. `other` is room.
+fn having(
+    t: &[u64; 256],
+    tn: usize,
+    l: u32,
+    m: u32,
+    list: &mut [u64; 256],
+    other: &mut [u64; 256],
+) -> Grown
+    requires { ⌜ (tn ≤ 256) × (l ≤ 32) ⌝ }
+    ensures within { λ r. ⌜ Within r ⌝ }
+    ensures made { λ r. ⌜
+        ((τ : Entries) (k : Bits) → Holds l (now (t .entry)) tn τ → length k ≡ l → m ≡ set-word k
+        → Makes l (now (list .exit)) r (having-set l k τ))
+        ⌝ }
+{
+    *other = *t;
+    match lists::growth::grow(other, tn, l, (m as u64) << 32) {
+        Grown::Count(n) => crate::sides::change_side(other, n, l, list),
+        Grown::Full => Grown::Full,
+    }
+}
+
+// The joined groups of a negative table, as a negative list.
+fn negative_joined(
+    t: &[u64; 256],
+    tn: usize,
+    l: u32,
+    mx: u32,
+    mt: u32,
+    list: &mut [u64; 256],
+) -> Grown
+    requires { ⌜ (tn ≤ 256) × (l ≤ 32) ⌝ }
+    ensures within { λ r. ⌜ Within r ⌝ }
+    ensures made { λ r. ⌜
+        OfSets l (now (t .entry)) tn mx mt (λ τ x t. Makes l (now (list .exit)) r (negative-joined l x t τ))
+        ⌝ }
+{
+    let mut a = [0u64; 256];
+    let mut b = [0u64; 256];
+    let mut other = [0u64; 256];
+    match having(t, tn, l, mx, &mut a, &mut other) {
+        Grown::Count(an) => match having(t, tn, l, mt, &mut b, &mut other) {
+            Grown::Count(bn) => match joined(&mut a, an, &b, bn, l, &mut other, list) {
+                Grown::Count(n) => crate::sides::change_side(&a, n, l, list),
+                Grown::Full => Grown::Full,
+            },
+            Grown::Full => Grown::Full,
+        },
+        Grown::Full => Grown::Full,
+    }
+}
+
+// The table with an entry more for each variable of the set m: 1 there and `*` elsewhere. `row` is room.
+fn lacking(
+    t: &[u64; 256],
+    tn: usize,
+    l: u32,
+    m: u32,
+    list: &mut [u64; 256],
+    row: &mut [u64; 256],
+) -> Grown
+    requires { ⌜ (tn ≤ 256) × (l ≤ 32) ⌝ }
+    ensures within { λ r. ⌜ Within r ⌝ }
+    ensures made { λ r. ⌜
+        ((τ : Entries) (k : Bits) → Holds l (now (t .entry)) tn τ → length k ≡ l → m ≡ set-word k
+        → Makes l (now (list .exit)) r (grow-all τ (ones k)))
+        ⌝ }
+{
+    let k = crate::rows::ones_row(m, l, row);
+    *list = *t;
+    lists::growth::grow_each(list, tn, l, row, k)
+}
+
+// Equation, negative, for x alone in mx and t's variables in mt.
+pub fn negative(t: &[u64; 256], tn: usize, l: u32, mx: u32, mt: u32, list: &mut [u64; 256]) -> Grown
+    requires { ⌜ (tn ≤ 256) × (l ≤ 32) ⌝ }
+    ensures within { λ r. ⌜ Within r ⌝ }
+    ensures made { λ r. ⌜
+        OfSets l (now (t .entry)) tn mx mt (λ τ x t. Makes l (now (list .exit)) r (negative-equation l x t τ))
+        ⌝ }
+{
+    let mut joins = [0u64; 256];
+    let mut others = [0u64; 256];
+    let mut row = [0u64; 256];
+    match negative_joined(t, tn, l, mx, mt, &mut joins) {
+        Grown::Count(k) => match lacking(t, tn, l, mx | mt, &mut others, &mut row) {
+            Grown::Count(c) => {
+                crate::pairs::pairs(Pairing::Meet, &others, c, &joins, k, l, list, &mut row)
+            }
+            Grown::Full => Grown::Full,
+        },
+        Grown::Full => Grown::Full,
+    }
+}
