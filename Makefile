@@ -4,7 +4,7 @@
 # make runs      sharerun on stored cases and against plain Rust
 # make tools     the text front end
 # make examples  the C interface: headers, refusals, utilities, recipes and examples, in place and installed
-# make bench     times ours against plain Rust and prints ratios; make same only sees that both give the same
+# make bench     times ours against plain Rust and prints ratios; make same only compares the two, and prints what the loads are
 # make install   the headers, the library, its pkg-config file, the programs, their manual pages and the examples, under PREFIX
 .PHONY: run test plain bench same calls runs tools stack fmt library examples install
 
@@ -13,11 +13,12 @@ SHELL := bash
 
 LIBRARY := $(CURDIR)/target/staticlib
 ARCHIVE := $(LIBRARY)/libanalyser.a
+TIMING := $(LIBRARY)/libtiming.a
 PROGRAM := target/bin/sharerun
 CRATES := crates.txt $(shell find crates -type f)
 FOLDERS := CARGO_TARGET_DIR=$(CURDIR)/target/cargo SHARING_LIB_DIR=$(LIBRARY)
 CARGO := $(FOLDERS) cargo
-BENCH := $(CARGO) run --quiet --release --manifest-path bench/Cargo.toml --
+BENCH := RUSTFLAGS="-C llvm-args=-align-all-functions=6" $(CARGO) run --quiet --release --manifest-path bench/Cargo.toml --
 
 # The header has the version.
 VERSION := $(shell sed -n 's/^.define SHARING_VERSION_M[A-Z]* \([0-9]*\)$$/\1./p; s/^.define SHARING_VERSION_PATCH //p' include/sharing.h | tr -d '\n')
@@ -33,8 +34,7 @@ test:
 plain:
 	@$(CARGO) test --quiet --manifest-path reference/Cargo.toml
 
-same:
-	@rt staticlib timing
+same: $(ARCHIVE) $(TIMING)
 	@$(BENCH) --same
 
 calls: library
@@ -53,8 +53,8 @@ stack: library
 library: $(ARCHIVE)
 
 # What is proved and unchanged is not proved again; of what rt prints only its own lines are shown.
-$(ARCHIVE): $(CRATES)
-	@rt staticlib analyser | grep '^rt:'
+$(LIBRARY)/lib%.a: $(CRATES)
+	@rt staticlib $* | grep '^rt:'
 	@touch $@
 
 $(PROGRAM): $(CRATES)
@@ -85,8 +85,7 @@ ifneq ($(MANUALS),)
 	@install -m 644 $(MANUALS) $(INTO)/share/man/man1
 endif
 
-bench:
-	@rt staticlib timing
+bench: $(ARCHIVE) $(TIMING)
 	@$(BENCH)
 
 fmt:

@@ -1,10 +1,11 @@
-//! Links the verified side, libtiming.a, from the folder that SHARING_LIB_DIR names.
+//! Links the verified side, libanalyser.a with the calls and libtiming.a with inner functions, from
+//! the folder that SHARING_LIB_DIR names.
 
 use std::path::{Path, PathBuf};
 use std::process::ExitCode;
 
 const VARIABLE: &str = "SHARING_LIB_DIR";
-const ARCHIVE: &str = "libtiming.a";
+const LIBRARIES: [&str; 2] = ["analyser", "timing"];
 
 fn main() -> ExitCode {
     println!("cargo:rerun-if-env-changed={VARIABLE}");
@@ -21,23 +22,33 @@ fn main() -> ExitCode {
     }
 }
 
-/// The named folder, once it is seen to hold the archive: the linker's own message is unclear.
+/// The named folder, once it is seen to hold the archives: the linker's own message is unclear.
 fn archive_folder() -> Result<PathBuf, String> {
     let named = std::env::var_os(VARIABLE)
-        .ok_or_else(|| format!("{VARIABLE} is not set: name the folder that holds {ARCHIVE}"))?;
+        .ok_or_else(|| format!("{VARIABLE} is not set: name the folder that holds the archives"))?;
     let folder = PathBuf::from(named);
     if !folder.is_absolute() {
         return Err(format!("{VARIABLE} must be an absolute path"));
     }
-    if !folder.join(ARCHIVE).is_file() {
-        return Err(format!("{VARIABLE}: {} has no {ARCHIVE}", folder.display()));
+    for archive in LIBRARIES.map(archive) {
+        if !folder.join(&archive).is_file() {
+            return Err(format!("{VARIABLE}: {} has no {archive}", folder.display()));
+        }
     }
     Ok(folder)
 }
 
-/// Tells cargo what to link, and to link again where the archive is built anew.
+/// The file of a library.
+fn archive(library: &str) -> String {
+    format!("lib{library}.a")
+}
+
+/// Tells cargo what to link, and to link again where an archive is built anew.
 fn link(folder: &Path) {
-    println!("cargo:rerun-if-changed={}", folder.join(ARCHIVE).display());
     println!("cargo:rustc-link-search=native={}", folder.display());
-    println!("cargo:rustc-link-lib=static=timing");
+    for library in LIBRARIES {
+        let archive = folder.join(archive(library));
+        println!("cargo:rerun-if-changed={}", archive.display());
+        println!("cargo:rustc-link-lib=static={library}");
+    }
 }

@@ -1,263 +1,167 @@
 //! One input on both sides: that they give the same, and how long they take.
 
-use std::borrow::Cow;
 use std::hint::black_box;
 use std::time::Duration;
 
-use reference::refusal::{number_of, Refusal};
-use reference::{growth, questions, values, Entry, Equation, Side, ENTRIES};
+use reference::{calls, Side};
 
-use crate::enumeration;
-use crate::load::{Chain, Input, L};
-use crate::ours::{self, Table};
-use crate::questions::{Equality, Independence};
+use crate::calls::{form_entries, Calls, FORM};
+use crate::input::{Chain, Input};
+use crate::load::L;
+use crate::ours::Ours;
+use crate::plain::Plain;
 use crate::timing::{least, Times};
 
-/// What a side gives: the whole table, or the number of the refusal.
-type Answer = Result<Table, u32>;
+/// What outputs and answers hold before a call, so that a byte too many is seen.
+const UNTOUCHED: u8 = 0xa5;
 
-/// How the two sides differ on an input; None where they give the same.
-pub fn difference(input: &Input) -> Option<String> {
-    match input {
-        Input::Strings(strings) => {
-            answer_difference(ours_grown(&Table::of(L, strings)), plain_grown(strings))
+/// What a call returned and left.
+pub struct Outcome {
+    /// 0 where the call was accepted, else the number of the refusal.
+    pub number: u32,
+    /// The entries of the table that it left; None for an answer and for an output that a refused
+    /// call did not write.
+    pub entries: Option<usize>,
+    /// The whole of its output, state or answer.
+    left: Vec<u64>,
+}
+
+/// What a call leaves: the output that was lent to it, a state or an answer.
+enum Left<'a, C: Calls> {
+    Output(&'a [u8]),
+    State(&'a C::State),
+    Answer(u32),
+}
+
+impl<C: Calls> Left<'_, C> {
+    fn outcome(&self, number: u32) -> Outcome {
+        let (entries, left) = match self {
+            Left::Output(out) => (
+                (number == 0).then(|| form_entries(out)),
+                out.iter().map(|&byte| byte.into()).collect(),
+            ),
+            Left::State(state) => (Some(C::entries(state)), C::numbers(state)),
+            Left::Answer(answer) => (None, vec![u64::from(*answer)]),
+        };
+        Outcome {
+            number,
+            entries,
+            left,
         }
-        Input::Groups(groups) => {
-            answer_difference(ours::convert(L, groups), plain_converted(groups))
-        }
-        Input::Chain(chain) => chain_difference(chain),
-        Input::Equality(asked) => equality_difference(asked),
-        Input::Independence(asked) => independence_difference(asked),
     }
+}
+
+/// Makes the calls of an input in order, and shows what each returns and leaves: the calls that are
+/// compared are the calls that are timed.
+fn perform<C: Calls>(input: &Input, out: &mut [u8], mut see: impl FnMut(u32, Left<C>)) {
+    match input {
+        Input::Read { table } => {
+            let number = C::read(table, out);
+            see(number, Left::Output(out));
+        }
+        Input::Convert { l, groups } => {
+            let number = C::convert(*l, groups, out);
+            see(number, Left::Output(out));
+        }
+        Input::ChangeSide { table } => {
+            let number = C::change_side(Side::Positive.number(), table, out);
+            see(number, Left::Output(out));
+        }
+        Input::Chain(chain) => perform_chain(chain, see),
+        Input::Equal { first, second } => {
+            let mut answer = UNTOUCHED.into();
+            let number = C::equal(first, second, &mut answer);
+            see(number, Left::Answer(answer));
+        }
+        Input::Independent { table, a, b } => {
+            let mut answer = UNTOUCHED.into();
+            let number = C::independent(table, *a, *b, &mut answer);
+            see(number, Left::Answer(answer));
+        }
+    }
+}
+
+/// The same for a chain. A refused equation leaves the state as it was, and the next one goes on
+/// from there.
+fn perform_chain<C: Calls>(chain: &Chain, mut see: impl FnMut(u32, Left<C>)) {
+    let mut state = C::start(chain.side.number(), &chain.table);
+    see(0, Left::State(&state));
+    for step in &chain.steps {
+        let number = C::step(&mut state, step.variable, &step.term);
+        see(number, Left::State(&state));
+    }
+}
+
+/// What each call of an input gives, once both sides are seen to give the same; else how they
+/// differ.
+pub fn outcomes(input: &Input) -> Result<Vec<Outcome>, String> {
+    let ours = side_outcomes::<Ours>(input);
+    let plain = side_outcomes::<Plain>(input);
+    for (i, (ours, plain)) in ours.iter().zip(&plain).enumerate() {
+        if let Some(difference) = difference(ours, plain) {
+            return Err(format!("call {}: {difference}", i + 1));
+        }
+    }
+    match reference_answer(input) {
+        Some(answer) if plain[0].left != [u64::from(answer)] => Err("the reference differs".into()),
+        _ => Ok(ours),
+    }
+}
+
+fn side_outcomes<C: Calls>(input: &Input) -> Vec<Outcome> {
+    let mut outcomes = Vec::new();
+    let mut out = [UNTOUCHED; FORM];
+    perform::<C>(input, &mut out, |number, left| {
+        outcomes.push(left.outcome(number));
+    });
+    outcomes
+}
+
+/// How two outcomes of a call differ, also in what a refused call left.
+fn difference(ours: &Outcome, plain: &Outcome) -> Option<String> {
+    if ours.number != plain.number {
+        let (ours, plain) = (ours.number, plain.number);
+        return Some(format!("ours returns {ours}, plain {plain}"));
+    }
+    let both = ours.left.iter().zip(&plain.left);
+    let (k, (ours, plain)) = both.enumerate().find(|(_, (ours, plain))| ours != plain)?;
+    Some(format!(
+        "number {k} of what is left is {ours:#x} in ours, {plain:#x} in plain"
+    ))
+}
+
+/// The answer of the reference, which goes through all groups more slowly, to a question about few
+/// variables.
+fn reference_answer(input: &Input) -> Option<u32> {
+    let few = |table: &[u8]| u32::from(table[0]) <= L;
+    let mut answer = UNTOUCHED.into();
+    match input {
+        Input::Equal { first, second } if few(first) => {
+            calls::equal(first, second, &mut answer);
+        }
+        Input::Independent { table, a, b } if few(table) => {
+            calls::independent(Side::Negative.number(), table, *a, *b, &mut answer);
+        }
+        _ => return None,
+    }
+    Some(answer)
 }
 
 /// The time that each side takes for one pass over some inputs, in a round of about this length.
 pub fn times(inputs: &[Input], long: Duration) -> Times {
-    let ours: Vec<OurInput> = inputs.iter().map(OurInput::of).collect();
+    let [mut ours, mut plain] = [[0; FORM]; 2];
     least(
         long,
-        || ours.iter().for_each(our_turn),
-        || inputs.iter().for_each(plain_turn),
+        || turn::<Ours>(inputs, &mut ours),
+        || turn::<Plain>(inputs, &mut plain),
     )
 }
 
-/// An input in the form that ours takes it.
-enum OurInput<'a> {
-    Strings(Box<Table>),
-    Groups(&'a [u32]),
-    Chain(&'a Chain, Box<Table>),
-    Equality(Box<Table>, Box<Table>),
-    Independence(Box<Table>, u32, u32),
-}
-
-impl OurInput<'_> {
-    fn of(input: &Input) -> OurInput<'_> {
-        match input {
-            Input::Strings(strings) => OurInput::Strings(Box::new(Table::of(L, strings))),
-            Input::Groups(groups) => OurInput::Groups(groups),
-            Input::Chain(chain) => OurInput::Chain(chain, Box::new(of_plain(&chain.start))),
-            Input::Equality(Equality { l, first, second }) => {
-                let table = |list| Box::new(Table::of(*l, list));
-                OurInput::Equality(table(first), table(second))
-            }
-            Input::Independence(Independence { l, entries, a, b }) => {
-                OurInput::Independence(Box::new(Table::of(*l, entries)), *a, *b)
-            }
-        }
+/// One pass over some inputs, with one output for all of them.
+fn turn<C: Calls>(inputs: &[Input], out: &mut [u8]) {
+    for input in inputs {
+        perform::<C>(black_box(input), out, |number, left| {
+            black_box((number, left));
+        });
     }
-}
-
-/// Growing starts from nothing on both sides: an empty table, and a new vector.
-fn our_turn(input: &OurInput) {
-    match black_box(input) {
-        OurInput::Strings(strings) => {
-            let _ = black_box(ours_grown(strings));
-        }
-        OurInput::Groups(groups) => drop(black_box(ours::convert(L, groups))),
-        OurInput::Chain(chain, start) => {
-            black_box(ours_after(chain, start));
-        }
-        OurInput::Equality(first, second) => {
-            black_box(ours::equal(first, second));
-        }
-        OurInput::Independence(table, a, b) => {
-            black_box(ours::independent(Side::Negative, table, *a, *b));
-        }
-    }
-}
-
-fn plain_turn(input: &Input) {
-    match black_box(input) {
-        Input::Strings(strings) => {
-            let mut list = Vec::new();
-            let _ = black_box(growth::grow_all(L, &mut list, strings.iter().copied()));
-            black_box(&list);
-        }
-        Input::Groups(groups) => drop(black_box(values::convert(L, groups))),
-        Input::Chain(chain) => drop(black_box(plain_after(chain))),
-        Input::Equality(asked) => {
-            black_box(plain_equal(asked));
-        }
-        Input::Independence(asked) => {
-            black_box(plain_independent(asked));
-        }
-    }
-}
-
-fn ours_grown(strings: &Table) -> Answer {
-    let mut table = Table::empty(L);
-    ours::grow(&mut table, strings).map(|()| table)
-}
-
-fn plain_grown(strings: &[Entry]) -> Answer {
-    let mut list = Vec::new();
-    growth::grow_all(L, &mut list, strings.iter().copied())
-        .map(|()| Table::of(L, &list))
-        .map_err(Refusal::number)
-}
-
-fn plain_converted(groups: &[u32]) -> Answer {
-    values::convert(L, groups)
-        .map(|table| of_plain(&table))
-        .map_err(Refusal::number)
-}
-
-/// The table after the last equation of a chain.
-fn ours_after(chain: &Chain, start: &Table) -> Table {
-    let apply = |table, equation| ours::equation(chain.side, table, equation).table;
-    chain.equations.iter().fold(*start, apply)
-}
-
-/// The same; a refused equation leaves the table as it was.
-fn plain_after(chain: &Chain) -> Cow<'_, reference::Table> {
-    let mut table = Cow::Borrowed(&chain.start);
-    for equation in &chain.equations {
-        if let Ok(next) = plain_equation(chain.side, &table, equation) {
-            table = Cow::Owned(next);
-        }
-    }
-    table
-}
-
-fn plain_equation(
-    side: Side,
-    table: &reference::Table,
-    equation: &Equation,
-) -> Result<reference::Table, Refusal> {
-    values::equation(side, table, u32::from(equation.left), &equation.term)
-}
-
-fn plain_equal(asked: &Equality) -> bool {
-    enumeration::equal(asked.l, &asked.first, &asked.second)
-}
-
-fn plain_independent(asked: &Independence) -> bool {
-    enumeration::independent_negative(asked.l, &asked.entries, asked.a, asked.b)
-}
-
-/// A plain table as ours lays it out.
-fn of_plain(table: &reference::Table) -> Table {
-    Table::of(table.l, &table.entries)
-}
-
-/// The number that a call returns.
-fn number(answer: &Answer) -> u32 {
-    match answer {
-        Ok(_) => 0,
-        Err(number) => *number,
-    }
-}
-
-/// How two answers differ: in their tables, where both sides accept, else in their numbers.
-fn answer_difference(ours: Answer, plain: Answer) -> Option<String> {
-    match (ours, plain) {
-        (Ok(ours), Ok(plain)) => table_difference(&ours, &plain),
-        (ours, plain) => number_difference(number(&ours), number(&plain)),
-    }
-}
-
-/// How the two sides differ at the first equation of a chain where they do. The table that a
-/// refusal returns is compared too.
-fn chain_difference(chain: &Chain) -> Option<String> {
-    let mut ours = of_plain(&chain.start);
-    let mut plain = chain.start.clone();
-    for (i, equation) in chain.equations.iter().enumerate() {
-        let timed = ours::equation(chain.side, ours, equation);
-        let outcome = plain_equation(chain.side, &plain, equation);
-        let numbers = number_difference(timed.code, number_of(&outcome));
-        ours = timed.table;
-        plain = outcome.unwrap_or(plain);
-        let difference = numbers.or_else(|| table_difference(&ours, &of_plain(&plain)));
-        if let Some(difference) = difference {
-            return Some(format!("equation {}: {difference}", i + 1));
-        }
-    }
-    None
-}
-
-/// How the answers about two tables differ.
-fn equality_difference(asked: &Equality) -> Option<String> {
-    let Equality { l, first, second } = asked;
-    let [ours_first, ours_second] = [first, second].map(|list| Table::of(*l, list));
-    let reference = || {
-        let [first, second] = [first, second].map(|list| plain_table(*l, list));
-        questions::equal(&first, &second)
-    };
-    let calls = [
-        ours::equal(&ours_first, &ours_second),
-        ours::lists_equal(&ours_first, &ours_second),
-    ];
-    reply_difference(*l, calls, plain_equal(asked), reference)
-}
-
-/// How the answers about two sets differ.
-fn independence_difference(asked: &Independence) -> Option<String> {
-    let Independence { l, entries, a, b } = asked;
-    let table = Table::of(*l, entries);
-    let reference = || questions::independent(Side::Negative, &plain_table(*l, entries), *a, *b);
-    let calls = [
-        ours::independent(Side::Negative, &table, *a, *b),
-        ours::lists_independent(&table, *a, *b),
-    ];
-    reply_difference(*l, calls, plain_independent(asked), reference)
-}
-
-fn plain_table(l: u32, entries: &[Entry]) -> reference::Table {
-    reference::Table {
-        l,
-        entries: entries.to_vec(),
-    }
-}
-
-/// How a reply differs: ours on tables and on lists, and plain. Of few variables the reference,
-/// which goes through all groups more slowly, is asked too.
-fn reply_difference(
-    l: u32,
-    ours: [u32; 2],
-    plain: bool,
-    reference: impl Fn() -> Result<bool, Refusal>,
-) -> Option<String> {
-    let plain = u32::from(plain);
-    let calls = ours.iter().find_map(|&ours| number_difference(ours, plain));
-    let second =
-        || (l <= L && reference() != Ok(plain == 1)).then(|| "the reference differs".into());
-    calls.or_else(second)
-}
-
-fn number_difference(ours: u32, plain: u32) -> Option<String> {
-    (ours != plain).then(|| format!("ours returns {ours}, plain {plain}"))
-}
-
-/// How two tables differ, the words past the count included.
-fn table_difference(ours: &Table, plain: &Table) -> Option<String> {
-    if (ours.l, ours.n) != (plain.l, plain.n) {
-        let sizes = |table: &Table| format!("l {} and {} entries", table.l, table.n);
-        return Some(format!("ours has {}, plain {}", sizes(ours), sizes(plain)));
-    }
-    let k = (0..ENTRIES).find(|&k| ours.entry(k) != plain.entry(k))?;
-    let (ours, plain) = (ours.entry(k), plain.entry(k));
-    Some(format!(
-        "entry {} is {ours:x?} in ours, {plain:x?} in plain",
-        k + 1
-    ))
 }

@@ -1,190 +1,194 @@
-//! The random inputs: the same in each run, since the seeds are fixed.
+//! The rows and their random inputs: the same in each run, since the seeds are fixed.
 
-use std::ops::RangeInclusive;
+use std::slice;
 
 use reference::terms::head;
-use reference::{values, Entry, Equation, Refusal, Side, Table, ENTRIES, VARIABLES};
+use reference::{Equation, Refusal, Side, Table, ENTRIES, VARIABLES};
 
-use crate::questions::{self, Equality, Independence};
-use crate::random::{Draws, Random};
+use crate::input::Input;
+use crate::questions::{self, Sort};
+use crate::random::Random;
+use crate::tables;
 
-/// The number of variables of every input but the chains and the questions.
+/// The number of variables of most inputs.
 pub const L: u32 = 12;
 
 /// Different inputs for each row, so that no single list decides it.
-const INPUTS: usize = 64;
+pub const INPUTS: usize = 64;
 
-/// Any nonzero number does; this one is the fraction of the golden ratio in 64 bits.
-pub const SEED: u64 = 0x9E37_79B9_7F4A_7C15;
+/// The same for chains, which take long.
+pub const CHAINS: usize = 32;
 
-/// The seeds of the tables that one equation is applied to.
-const EQUATION_SEEDS: RangeInclusive<u32> = 1..=100;
-
-/// The seeds of the tables that chains start from.
-const CHAIN_SEEDS: RangeInclusive<u32> = 1..=32;
+/// The same for one equation on tables that are drawn.
+const EQUATIONS: usize = 100;
 
 /// The equations of a chain.
 const CHAIN: usize = 20;
 
-/// What a row times.
-#[derive(Clone, Copy, PartialEq, Eq)]
-pub enum Kind {
-    Growing,
-    Converting,
-    Equation,
-    Chain,
-    Equality,
-    Independence,
-}
+/// Any nonzero number does; this one is the fraction of the golden ratio in 64 bits.
+pub const SEED: u64 = 0x9E37_79B9_7F4A_7C15;
 
-impl Kind {
-    pub const ALL: [Kind; 6] = [
-        Kind::Growing,
-        Kind::Converting,
-        Kind::Equation,
-        Kind::Chain,
-        Kind::Equality,
-        Kind::Independence,
-    ];
+/// The rows that came later have a generator of their own, so that the inputs of the others stay
+/// the same; this is the fraction of the root of 2.
+const LATER_SEED: u64 = 0x6A09_E667_F3BC_C908;
 
-    pub fn name(self) -> &'static str {
-        match self {
-            Kind::Growing => "growing",
-            Kind::Converting => "converting",
-            Kind::Equation => "equation",
-            Kind::Chain => "chain",
-            Kind::Equality => "equality",
-            Kind::Independence => "independence",
-        }
-    }
-}
-
-/// One input that is checked and timed.
-pub enum Input {
-    /// Strings by which the empty table is grown, in order.
-    Strings(Vec<Entry>),
-    /// Groups that are converted, in order.
-    Groups(Vec<u32>),
-    /// Equations that are applied, in order.
-    Chain(Chain),
-    /// Two tables that are compared.
-    Equality(Equality),
-    /// Two sets that are asked of a negative table.
-    Independence(Independence),
-}
-
-/// Equations of one side, each on the table that the last one returned.
-pub struct Chain {
-    pub side: Side,
-    pub start: Table,
-    pub equations: Vec<Equation>,
-}
+/// The bound of a row, as a multiple of its goal: least times, too, differ from run to run.
+const MARGIN: f64 = 1.25;
 
 /// Inputs of one sort, which make one line of the printed table.
 pub struct Row {
     pub name: String,
-    pub kind: Kind,
-    /// The promised bound on the time of ours, as a part of the time of plain Rust.
+    /// What the time of ours shall be, as a part of the time of plain Rust.
+    pub goal: f64,
+    /// The part above which `--check` fails.
     pub bound: f64,
     pub inputs: Vec<Input>,
 }
 
-/// All rows: growing by rising density of stars, converting, one equation, chains of equations,
-/// the questions.
-/// An error says that a start table is refused.
+impl Row {
+    /// A row; a refusal says that an input cannot be made.
+    fn new<I>(name: String, goal: f64, inputs: I) -> Result<Row, Refusal>
+    where
+        I: IntoIterator<Item = Result<Input, Refusal>>,
+    {
+        Ok(Row {
+            name,
+            goal,
+            bound: MARGIN * goal,
+            inputs: inputs.into_iter().collect::<Result<_, _>>()?,
+        })
+    }
+
+    /// The row with another bound.
+    fn bounded(self, bound: f64) -> Row {
+        Row { bound, ..self }
+    }
+}
+
+/// All rows: growing by rising density of stars, converting, changes of side, one equation, chains
+/// of equations, the questions.
 pub fn rows() -> Result<Vec<Row>, Refusal> {
     let mut random = Random(SEED);
+    let mut later = Random(LATER_SEED);
     let mut rows = Vec::new();
     for percent in (0..=90).step_by(10) {
-        rows.push(growing(&mut random, percent));
+        rows.push(growing(&mut random, percent)?);
     }
     for count in [32, 128] {
-        rows.push(converting(&mut random, count));
+        rows.push(converting(&mut random, count)?);
     }
-    // Of 5 draws one change of side is full already, of 32 draws every one.
-    for (side, draws) in [(Side::Positive, 32), (Side::Negative, 4)] {
-        rows.push(equation(side, draws)?);
+    rows.push(change_of_side(
+        "40 strings",
+        &tables::wide_strings(&mut later)?,
+    )?);
+    rows.push(change_of_side(
+        "most groups",
+        &tables::most_groups(&mut later)?,
+    )?);
+    rows.extend(equations(&mut later)?);
+    rows.extend(chains(&mut random, &mut later)?);
+    for l in questions::WIDTHS {
+        for sort in questions::sorts(&mut random, l) {
+            rows.push(asking(&sort)?);
+        }
     }
-    // Of 16 draws hardly an equation is full, of 32 most are; of 22 one table has all 256 entries.
-    rows.push(chains(&mut random, 22)?);
-    rows.extend(questions::rows(&mut random));
     Ok(rows)
 }
 
-/// Lists of 256 strings, each position `*` with the given chance.
-fn growing(random: &mut Random, percent: u32) -> Row {
-    let mut list = || (0..ENTRIES).map(|_| random.string(L, percent)).collect();
-    Row {
-        name: format!("growing by {ENTRIES}, {percent} % stars"),
-        kind: Kind::Growing,
-        bound: 0.50,
-        inputs: (0..INPUTS).map(|_| Input::Strings(list())).collect(),
-    }
+/// Forms of 256 strings, each position `*` with the given chance.
+fn growing(random: &mut Random, percent: u32) -> Result<Row, Refusal> {
+    let input = |_| {
+        let strings: Vec<_> = (0..ENTRIES).map(|_| random.string(L, percent)).collect();
+        Input::read(L, &strings)
+    };
+    let name = format!("growing by {ENTRIES}, {percent} % stars");
+    Ok(Row::new(name, 0.50, (0..INPUTS).map(input))?.bounded(0.50))
 }
 
 /// Rows of nonzero groups.
-fn converting(random: &mut Random, count: usize) -> Row {
-    let mut groups = || (0..count).map(|_| random.group(L)).collect();
-    Row {
-        name: format!("converting {count}"),
-        kind: Kind::Converting,
-        bound: 0.40,
-        inputs: (0..INPUTS).map(|_| Input::Groups(groups())).collect(),
-    }
+fn converting(random: &mut Random, count: usize) -> Result<Row, Refusal> {
+    let input = |_| {
+        let groups = (0..count).map(|_| random.group(L)).collect();
+        Ok(Input::Convert { l: L, groups })
+    };
+    Row::new(format!("converting {count}"), 0.13, (0..INPUTS).map(input))
 }
 
-/// The equation X1 = f(X2, X3) by itself.
-fn equation(side: Side, draws: usize) -> Result<Row, Refusal> {
+fn change_of_side(name: &str, tables: &[Table]) -> Result<Row, Refusal> {
+    let name = format!("change of side, {name}");
+    Row::new(name, 0.28, tables.iter().map(Input::change_side))
+}
+
+/// One equation by itself.
+fn equations(random: &mut Random) -> Result<Vec<Row>, Refusal> {
+    let positive =
+        |name: &str, goal, tables: &[Table]| equation(name.into(), goal, Side::Positive, tables);
+    let drawn = tables::drawn(L, EQUATIONS, 32)?;
+    let mut rows = vec![positive("positive equation, 32 draws", 0.10, &drawn)?];
+    rows.extend(negative_equations(random)?);
+    let one_entry = tables::one_entry(random);
+    rows.push(positive("equation on one entry", 0.60, &one_entry)?);
+    Ok(rows)
+}
+
+/// One negative equation. The tables that leave a share of the groups are drawn as they stand; the
+/// others are positive ones that are changed: of 5 draws one change is full already, of 32 draws
+/// every one.
+fn negative_equations(random: &mut Random) -> Result<Vec<Row>, Refusal> {
+    let negative = |name: &str, goal, tables: &[Table]| {
+        let name = format!("negative equation, {name}");
+        equation(name, goal, Side::Negative, tables)
+    };
+    let mut rows = Vec::new();
+    for (percent, fixed) in tables::SHARES {
+        let tables = tables::leaving(percent, fixed, EQUATIONS)?;
+        rows.push(negative(&format!("{percent} % left"), 0.35, &tables)?);
+    }
+    let drawn = tables::changed(&tables::drawn(L, EQUATIONS, 4)?)?;
+    rows.push(negative("4 draws", 0.50, &drawn)?.bounded(0.50));
+    let most = tables::changed(&tables::most_groups(random)?)?;
+    rows.push(negative("most groups", 0.35, &most)?);
+    Ok(rows)
+}
+
+/// The equation X1 = f(X2, X3).
+fn equation(name: String, goal: f64, side: Side, tables: &[Table]) -> Result<Row, Refusal> {
     let equation = Equation {
         left: 1,
         term: vec![head(1, 2), 2, 3],
     };
-    let input = |seed| {
-        Ok(Input::Chain(Chain {
-            side,
-            start: start(side, L, seed, draws)?,
-            equations: vec![equation.clone()],
-        }))
+    let input = |table| Input::chain(side, table, slice::from_ref(&equation));
+    Row::new(name, goal, tables.iter().map(input))
+}
+
+/// Chains of random positive equations of 16 variables. Of 16 draws hardly an equation is full, of
+/// 32 most are; of 22 one table has all 256 entries. From the all-star entry, where nothing is known
+/// of the variables, tables stay short.
+fn chains(random: &mut Random, later: &mut Random) -> Result<Vec<Row>, Refusal> {
+    let drawn = tables::drawn(VARIABLES, CHAINS, 22)?;
+    let more = tables::more_groups(later)?;
+    let unknown = vec![Table::all_star(VARIABLES); CHAINS];
+    Ok(vec![
+        chain(random, "22 draws", 0.15, &drawn)?.bounded(0.60),
+        chain(later, "16 groups", 0.30, &tables::single_groups()?)?,
+        chain(later, "24 groups", 0.15, &more)?,
+        chain(later, "all-star entry", 0.60, &unknown)?,
+    ])
+}
+
+fn chain(random: &mut Random, name: &str, goal: f64, tables: &[Table]) -> Result<Row, Refusal> {
+    let input = |table| {
+        let equations: Vec<_> = (0..CHAIN).map(|_| random.equation(VARIABLES)).collect();
+        Input::chain(Side::Positive, table, &equations)
     };
-    Ok(Row {
-        name: format!("{} equation, {draws} draws", side_name(side)),
-        kind: Kind::Equation,
-        bound: 0.50,
-        inputs: EQUATION_SEEDS.map(input).collect::<Result<_, _>>()?,
-    })
+    let name = format!("chain of {CHAIN}, {name}");
+    Row::new(name, goal, tables.iter().map(input))
 }
 
-/// Chains of random positive equations of 16 variables.
-fn chains(random: &mut Random, draws: usize) -> Result<Row, Refusal> {
-    let input = |seed| {
-        Ok(Input::Chain(Chain {
-            side: Side::Positive,
-            start: start(Side::Positive, VARIABLES, seed, draws)?,
-            equations: (0..CHAIN).map(|_| random.equation(VARIABLES)).collect(),
-        }))
-    };
-    Ok(Row {
-        name: format!("chain of {CHAIN}, {draws} draws"),
-        kind: Kind::Chain,
-        bound: 0.60,
-        inputs: CHAIN_SEEDS.map(input).collect::<Result<_, _>>()?,
-    })
-}
-
-/// The table of so many strings drawn, zeros and repeats included, on the given side.
-fn start(side: Side, l: u32, seed: u32, draws: usize) -> Result<Table, Refusal> {
-    let mut strings = Draws(seed);
-    let strings: Vec<u32> = (0..draws).map(|_| strings.string(l)).collect();
-    let table = values::convert(l, &strings)?;
-    match side {
-        Side::Positive => Ok(table),
-        Side::Negative => values::change_side(&table),
-    }
-}
-
-fn side_name(side: Side) -> &'static str {
-    match side {
-        Side::Positive => "positive",
-        Side::Negative => "negative",
-    }
+/// The questions of one sort. Both sides read the forms first, which grows their strings and drops
+/// some of the 256: at 12 variables 15 to 47 % (medians of the rows), at 16 variables 2 to 21 %.
+fn asking(sort: &Sort) -> Result<Row, Refusal> {
+    let inputs = sort.questions.iter().map(Input::question);
+    let row = Row::new(sort.name.clone(), sort.bound, inputs)?;
+    Ok(row.bounded(sort.bound))
 }

@@ -1,13 +1,20 @@
-//! The random inputs of the questions.
+//! The random questions, as lists of strings: at 32 variables no form holds them.
+
+use std::ops::RangeInclusive;
 
 use reference::entry::rising_bits;
 use reference::{Entry, ENTRIES};
 
-use crate::load::{Input, Kind, Row};
 use crate::random::Random;
+
+/// The widths of the rows.
+pub const WIDTHS: [u32; 2] = [12, 16];
 
 /// Different inputs for each row.
 const INPUTS: usize = 16;
+
+/// The fixed positions of a hard string.
+const HARD: RangeInclusive<u32> = 3..=6;
 
 /// The strings that each table of a pair has in two halves.
 const HALVED: usize = 32;
@@ -17,6 +24,9 @@ const COVERING: usize = 128;
 
 /// The variables of each set that is asked about.
 const ASKED: u32 = 3;
+
+/// The bound of a row, where it has no lower one.
+const BOUND: f64 = 1.5;
 
 /// Two lists of strings of l positions.
 pub struct Equality {
@@ -31,6 +41,20 @@ pub struct Independence {
     pub entries: Vec<Entry>,
     pub a: u32,
     pub b: u32,
+}
+
+/// One of the two.
+pub enum Question {
+    Equality(Equality),
+    Independence(Independence),
+}
+
+/// Questions that are drawn alike, which make a row.
+pub struct Sort {
+    pub name: String,
+    /// The bound of the row.
+    pub bound: f64,
+    pub questions: Vec<Question>,
 }
 
 /// How the strings of a table are drawn.
@@ -49,7 +73,7 @@ impl Strings {
         match self {
             Strings::Even => random.even_string(l),
             Strings::Stars(percent) => random.string(l, percent),
-            Strings::Hard => random.hard_string(l),
+            Strings::Hard => random.fixed_string(l, HARD),
         }
     }
 
@@ -65,34 +89,32 @@ impl Strings {
     fn bound(self, l: u32) -> f64 {
         match (self, l) {
             (Strings::Even, 16) => 1.0,
-            _ => 4.0,
+            _ => BOUND,
         }
     }
 }
 
-/// The rows at 12 and at 16 variables.
-pub fn rows(random: &mut Random) -> Vec<Row> {
-    let mut rows = Vec::new();
-    for l in [12, 16] {
-        for strings in [
-            Strings::Even,
-            Strings::Stars(30),
-            Strings::Stars(50),
-            Strings::Hard,
-        ] {
-            let inputs = (0..INPUTS).map(|_| same_groups(random, strings, l));
-            rows.push(equality("same", strings, l, inputs.collect()));
-        }
-        for strings in [Strings::Even, Strings::Hard] {
-            let inputs = (0..INPUTS).map(|_| drawn_apart(random, strings, l));
-            rows.push(equality("apart", strings, l, inputs.collect()));
-        }
-        for (name, draw) in INDEPENDENCE {
-            let inputs = (0..INPUTS).map(|_| draw(random, l));
-            rows.push(independence(name, l, inputs.collect()));
-        }
+/// The sorts of the rows at one width.
+pub fn sorts(random: &mut Random, l: u32) -> Vec<Sort> {
+    let mut sorts = Vec::new();
+    for strings in [
+        Strings::Even,
+        Strings::Stars(30),
+        Strings::Stars(50),
+        Strings::Hard,
+    ] {
+        let draw = || Question::Equality(same_groups(random, strings, l));
+        sorts.push(equality("same", strings, l, draw));
     }
-    rows
+    for strings in [Strings::Even, Strings::Hard] {
+        let draw = || Question::Equality(drawn_apart(random, strings, l));
+        sorts.push(equality("apart", strings, l, draw));
+    }
+    for (name, draw) in INDEPENDENCE {
+        let draw = || Question::Independence(draw(random, l));
+        sorts.push(sort(format!("independent {l}, {name}"), BOUND, draw));
+    }
+    sorts
 }
 
 /// Draws one input about independence.
@@ -105,21 +127,16 @@ pub const INDEPENDENCE: [(&str, Draw); 3] = [
     ("hard", hard_sets),
 ];
 
-fn equality(name: &str, strings: Strings, l: u32, inputs: Vec<Equality>) -> Row {
-    Row {
-        name: format!("equal {l}, {}, {name}", strings.name()),
-        kind: Kind::Equality,
-        bound: strings.bound(l),
-        inputs: inputs.into_iter().map(Input::Equality).collect(),
-    }
+fn equality(name: &str, strings: Strings, l: u32, draw: impl FnMut() -> Question) -> Sort {
+    let name = format!("equal {l}, {}, {name}", strings.name());
+    sort(name, strings.bound(l), draw)
 }
 
-fn independence(name: &str, l: u32, inputs: Vec<Independence>) -> Row {
-    Row {
-        name: format!("independent {l}, {name}"),
-        kind: Kind::Independence,
-        bound: 4.0,
-        inputs: inputs.into_iter().map(Input::Independence).collect(),
+fn sort(name: String, bound: f64, draw: impl FnMut() -> Question) -> Sort {
+    Sort {
+        name,
+        bound,
+        questions: std::iter::repeat_with(draw).take(INPUTS).collect(),
     }
 }
 

@@ -1,5 +1,7 @@
 //! The two generators, which give the same numbers in each run.
 
+use std::ops::RangeInclusive;
+
 use reference::entry::{low_bits, rising_bits};
 use reference::terms::head;
 use reference::{Entry, Equation};
@@ -22,11 +24,16 @@ impl Random {
         ((u64::from(self.next()) * u64::from(limit)) >> 32) as u32
     }
 
+    /// Whether something happens that has this chance.
+    pub fn chance(&mut self, percent: u32) -> bool {
+        self.below(100) < percent
+    }
+
     /// A string of l positions: each `*` with the given chance, else 0 or 1 evenly.
     pub fn string(&mut self, l: u32, percent: u32) -> Entry {
         let mut entry = Entry::ALL_STAR;
         for i in 0..l {
-            if self.below(100) >= percent {
+            if !self.chance(percent) {
                 entry.care |= 1 << i;
                 entry.value |= self.below(2) << i;
             }
@@ -45,15 +52,20 @@ impl Random {
         entry
     }
 
-    /// A string of l positions with three to six of them fixed, the number, the places and the
-    /// values at random.
-    pub fn hard_string(&mut self, l: u32) -> Entry {
-        let count = 3 + self.below(4);
-        let care = self.variables(l, count, 0);
+    /// A string of l positions, of which some are fixed: how many, which and to what at random.
+    pub fn fixed_string(&mut self, l: u32, counts: RangeInclusive<u32>) -> Entry {
+        let care = self.some_variables(l, counts);
         Entry {
             care,
             value: self.next() & care,
         }
+    }
+
+    /// A set of l variables, their number at random from a range.
+    pub fn some_variables(&mut self, l: u32, counts: RangeInclusive<u32>) -> u32 {
+        let (least, most) = counts.into_inner();
+        let count = least + self.below(most - least + 1);
+        self.variables(l, count, 0)
     }
 
     /// A set of so many of l variables, none of them in the other set.

@@ -2,6 +2,9 @@
 
 use std::time::{Duration, Instant};
 
+/// How often everything is timed.
+const ROUNDS: usize = 4;
+
 /// In one round each side is sampled at least this often ...
 const SAMPLES: u32 = 100;
 
@@ -25,12 +28,30 @@ impl Times {
         plain: f64::INFINITY,
     };
 
+    /// The time of ours as a part of the time of plain Rust.
+    pub fn ratio(self) -> f64 {
+        self.ours / self.plain
+    }
+
+    /// The microseconds of plain Rust and of ours for one of so many inputs.
+    pub fn microseconds(self, inputs: usize) -> [f64; 2] {
+        [self.plain, self.ours].map(|seconds| seconds * 1e6 / inputs as f64)
+    }
+
     /// The lesser time of each side.
     pub fn min(self, other: Times) -> Times {
         Times {
             ours: self.ours.min(other.ours),
             plain: self.plain.min(other.plain),
         }
+    }
+}
+
+/// Times every one once in each round. The rounds lie seconds apart, so that none is measured only
+/// while the machine is slow.
+pub fn rounds<T>(timed: &mut [T], mut round: impl FnMut(&mut T)) {
+    for _ in 0..ROUNDS {
+        timed.iter_mut().for_each(&mut round);
     }
 }
 

@@ -1,13 +1,18 @@
-//! The questions at 32 variables, where no enumeration can be timed beside them: ours alone.
+//! The questions at 32 variables, where no table holds them and no enumeration can be timed beside
+//! them: the inner functions alone.
 
 use std::hint::black_box;
 use std::time::Instant;
 
 use reference::Entry;
 
+use crate::enumeration;
+use crate::inner::Asked;
 use crate::load::SEED;
-use crate::ours::{self, Table};
-use crate::questions::{drawn_apart, same_groups, Equality, Independence, Strings, INDEPENDENCE};
+use crate::questions::{
+    drawn_apart, same_groups, sorts, Equality, Independence, Question, Strings, INDEPENDENCE,
+    WIDTHS,
+};
 use crate::random::Random;
 
 /// The greatest width of the inner functions.
@@ -18,6 +23,33 @@ const INPUTS: usize = 64;
 
 /// Each question is asked this often, and the least time counts.
 const TIMES: usize = 5;
+
+/// The inner functions give what enumeration gives where that is possible: at the widths of tables.
+pub fn check_same() -> Result<(), String> {
+    let mut random = Random(SEED);
+    for sort in WIDTHS.iter().flat_map(|&l| sorts(&mut random, l)) {
+        for (i, question) in sort.questions.iter().enumerate() {
+            let (ours, plain) = (Asked::of(question).ask(), u32::from(enumerated(question)));
+            if ours != plain {
+                let name = &sort.name;
+                return Err(format!(
+                    "inner {name}, input {}: ours {ours}, plain {plain}",
+                    i + 1
+                ));
+            }
+        }
+    }
+    Ok(())
+}
+
+fn enumerated(question: &Question) -> bool {
+    match question {
+        Question::Equality(Equality { l, first, second }) => enumeration::equal(*l, first, second),
+        Question::Independence(Independence { l, entries, a, b }) => {
+            enumeration::independent_negative(*l, entries, *a, *b)
+        }
+    }
+}
 
 /// Prints a line for each sort of question: microseconds for one, the median and the greatest.
 pub fn print() {
@@ -30,16 +62,16 @@ pub fn print() {
     for strings in [Strings::Even, Strings::Stars(50), Strings::Hard] {
         let name = |pair| format!("equal {L}, {}, {pair}", strings.name());
         line(&name("same"), || {
-            equality(same_groups(&mut random, strings, L))
+            Question::Equality(same_groups(&mut random, strings, L))
         });
         line(&name("apart"), || {
-            equality(drawn_apart(&mut random, strings, L))
+            Question::Equality(drawn_apart(&mut random, strings, L))
         });
     }
-    line(&format!("equal {L}, grid"), || equality(grid()));
+    line(&format!("equal {L}, grid"), || Question::Equality(grid()));
     for (name, draw) in INDEPENDENCE {
         let name = format!("independent {L}, {name}");
-        line(&name, || independence(draw(&mut random, L)));
+        line(&name, || Question::Independence(draw(&mut random, L)));
     }
 }
 
@@ -82,34 +114,21 @@ fn grid_edges(width: u32, height: u32) -> Vec<[u32; 2]> {
     right.chain(down.map(|k| [k, k + width])).collect()
 }
 
-/// A question: whether the answer is yes.
-type Question = Box<dyn Fn() -> bool>;
-
-fn equality(asked: Equality) -> Question {
-    let [first, second] = [asked.first, asked.second].map(|list| Table::of(L, &list));
-    Box::new(move || ours::lists_equal(&first, &second) == 1)
-}
-
-fn independence(asked: Independence) -> Question {
-    let table = Table::of(L, &asked.entries);
-    Box::new(move || ours::lists_independent(&table, asked.a, asked.b) == 1)
-}
-
 /// Times the questions of one sort, and prints their line.
 fn line(name: &str, mut draw: impl FnMut() -> Question) {
-    let questions: Vec<Question> = (0..INPUTS).map(|_| draw()).collect();
+    let questions: Vec<Asked> = (0..INPUTS).map(|_| Asked::of(&draw())).collect();
     let mut times: Vec<f64> = questions.iter().map(microseconds).collect();
     times.sort_by(f64::total_cmp);
-    let yes = questions.iter().filter(|question| question()).count();
+    let yes = questions.iter().filter(|asked| asked.ask() == 1).count();
     let (median, most) = (times[INPUTS / 2], times[INPUTS - 1]);
     println!("{name:<28} {median:>9.3} {most:>9.3} {yes:>5}");
 }
 
 /// The least time of one question.
-fn microseconds(question: &Question) -> f64 {
+fn microseconds(asked: &Asked) -> f64 {
     let once = |_| {
         let start = Instant::now();
-        black_box(question());
+        black_box(asked.ask());
         start.elapsed().as_secs_f64() * 1e6
     };
     (0..TIMES).map(once).fold(f64::INFINITY, f64::min)

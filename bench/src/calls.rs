@@ -1,0 +1,35 @@
+//! The calls that the rows time, on byte forms, as users make them. Both sides have them.
+
+use reference::ENTRIES;
+
+/// The bytes of an output that is never too short.
+pub const FORM: usize = 4 + 4 * ENTRIES;
+
+/// The calls of one side, as include/sharing.h has them. Each returns 0 where it is accepted, else
+/// the number of the refusal, and then writes nothing.
+pub trait Calls {
+    /// A running analysis. The number of its start stands in it.
+    type State;
+
+    fn read(table: &[u8], out: &mut [u8]) -> u32;
+    fn convert(l: u32, groups: &[u32], out: &mut [u8]) -> u32;
+    fn change_side(side: u32, table: &[u8], out: &mut [u8]) -> u32;
+    fn start(side: u32, table: &[u8]) -> Self::State;
+    fn step(state: &mut Self::State, variable: u32, term: &[u8]) -> u32;
+    fn equal(first: &[u8], second: &[u8], answer: &mut u32) -> u32;
+
+    /// Of a negative table: the side that is harder to answer for.
+    fn independent(table: &[u8], first: u32, second: u32, answer: &mut u32) -> u32;
+
+    /// The entries of the table of a state.
+    fn entries(state: &Self::State) -> usize;
+
+    /// All numbers of a state, to compare: code, side, applied, l and n, then 256 care words and
+    /// 256 value words.
+    fn numbers(state: &Self::State) -> Vec<u64>;
+}
+
+/// The entries that a form says it has.
+pub fn form_entries(form: &[u8]) -> usize {
+    usize::from(u16::from_le_bytes([form[2], form[3]]))
+}

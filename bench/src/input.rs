@@ -1,0 +1,95 @@
+//! What is checked and timed: calls with the bytes and numbers that they are given.
+
+use reference::forms::{bytes_of, table_length, write_table};
+use reference::{Entry, Equation, Refusal, Side, Table};
+
+use crate::calls::form_entries;
+use crate::questions::{Equality, Independence, Question};
+
+/// The calls of one input.
+pub enum Input {
+    /// A form that is read, which grows its strings in order.
+    Read { table: Vec<u8> },
+    /// Groups that are converted, in order.
+    Convert { l: u32, groups: Vec<u32> },
+    /// A positive table that is changed to negative.
+    ChangeSide { table: Vec<u8> },
+    /// A running analysis.
+    Chain(Chain),
+    /// Two tables that are compared.
+    Equal { first: Vec<u8>, second: Vec<u8> },
+    /// Two sets that are asked of a negative table.
+    Independent { table: Vec<u8>, a: u32, b: u32 },
+}
+
+/// A start, and equations, each on the table that the last one left.
+pub struct Chain {
+    pub side: Side,
+    pub table: Vec<u8>,
+    pub steps: Vec<Step>,
+}
+
+/// An equation with its term as bytes.
+pub struct Step {
+    pub variable: u32,
+    pub term: Vec<u8>,
+}
+
+/// Each of these is refused where a table cannot be written.
+impl Input {
+    pub fn read(l: u32, strings: &[Entry]) -> Result<Input, Refusal> {
+        let table = form(l, strings)?;
+        Ok(Input::Read { table })
+    }
+
+    pub fn change_side(table: &Table) -> Result<Input, Refusal> {
+        let table = form(table.l, &table.entries)?;
+        Ok(Input::ChangeSide { table })
+    }
+
+    pub fn chain(side: Side, table: &Table, equations: &[Equation]) -> Result<Input, Refusal> {
+        let step = |equation: &Equation| Step {
+            variable: equation.left.into(),
+            term: bytes_of(equation.term.iter().copied()),
+        };
+        Ok(Input::Chain(Chain {
+            side,
+            table: form(table.l, &table.entries)?,
+            steps: equations.iter().map(step).collect(),
+        }))
+    }
+
+    pub fn question(question: &Question) -> Result<Input, Refusal> {
+        match question {
+            Question::Equality(Equality { l, first, second }) => Ok(Input::Equal {
+                first: form(*l, first)?,
+                second: form(*l, second)?,
+            }),
+            Question::Independence(Independence { l, entries, a, b }) => Ok(Input::Independent {
+                table: form(*l, entries)?,
+                a: *a,
+                b: *b,
+            }),
+        }
+    }
+
+    /// How many groups or entries the input starts from.
+    pub fn size(&self) -> usize {
+        match self {
+            Input::Convert { groups, .. } => groups.len(),
+            Input::Read { table }
+            | Input::ChangeSide { table }
+            | Input::Chain(Chain { table, .. })
+            | Input::Equal { first: table, .. }
+            | Input::Independent { table, .. } => form_entries(table),
+        }
+    }
+}
+
+/// The form of a table with these entries, as they stand.
+fn form(l: u32, entries: &[Entry]) -> Result<Vec<u8>, Refusal> {
+    let entries = entries.to_vec();
+    let mut form = vec![0; table_length(entries.len())];
+    write_table(&Table { l, entries }, &mut form)?;
+    Ok(form)
+}
