@@ -144,8 +144,10 @@ fn negative_equations(random: &mut Random) -> Result<Vec<Row>, Refusal> {
         let tables = tables::leaving(percent, fixed, EQUATIONS)?;
         rows.push(negative(&format!("{percent} % left"), 0.35, &tables)?);
     }
-    let drawn = tables::changed(&tables::drawn(L, EQUATIONS, 4)?)?;
-    rows.push(negative("4 draws", 0.50, &drawn)?.bounded(0.50));
+    for draws in [2, 4] {
+        let drawn = tables::changed(&tables::drawn(L, EQUATIONS, draws)?)?;
+        rows.push(negative(&format!("{draws} draws"), 0.35, &drawn)?);
+    }
     let most = tables::changed(&tables::most_groups(random)?)?;
     rows.push(negative("most groups", 0.35, &most)?);
     Ok(rows)
@@ -169,7 +171,7 @@ fn chains(random: &mut Random, later: &mut Random) -> Result<Vec<Row>, Refusal> 
     let more = tables::more_groups(later)?;
     let unknown = vec![Table::all_star(VARIABLES); CHAINS];
     Ok(vec![
-        chain(random, "22 draws", 0.15, &drawn)?.bounded(0.60),
+        chain(random, "22 draws", 0.15, &drawn)?,
         chain(later, "16 groups", 0.30, &tables::single_groups()?)?,
         chain(later, "24 groups", 0.15, &more)?,
         chain(later, "all-star entry", 0.60, &unknown)?,
