@@ -77,6 +77,16 @@ holds-append {l = l} {list = list} {n = n} {τ = τ} h s {y = y} e is lt = recor
   short = h .short;
 }
 
+-- a store past the count changes nothing of what is held
+pub holds-past : {l : ℕ} {list : List ℕ} {n : ℕ} {τ : Entries} → Holds l list n τ → (k y : ℕ) → n ≤ k → Holds l (set list k y) n τ
+holds-past {list = list} h k y le = record {
+  here = λ i lt. getD-set-other list k i y 0 (λ e. absurd (omega (arith, e))) ∙ h .here i lt;
+  room = length-set list k y ∙ h .room;
+  count = h .count;
+  good = h .good;
+  short = h .short;
+}
+
 -- ---- What a call makes, by its answer
 
 pub makes-count : {l : ℕ} {list : List ℕ} {r : Grown} {o : Option Entries} {m : ℕ} → Makes l list r o → r ≡ Count m

@@ -31,7 +31,7 @@ subsumes-trans : (a b c : Trits) → T (subsumes a b) → T (subsumes b c) → T
 subsumes-trans a b c h k = subsumes-exact a c .1 (λ g d. subsumes-covers a b g h (subsumes-covers b c g k d))
 
 -- each string subsumes itself
-subsumes-self : (y : Trits) → T (subsumes y y)
+pub subsumes-self : (y : Trits) → T (subsumes y y)
 subsumes-self y = subsumes-exact y y .1 (λ g d. d)
 
 -- strings of one length with one word subsume each other

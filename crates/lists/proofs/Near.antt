@@ -8,8 +8,8 @@ use native.Mathlib.Numerals.{add-one}
 use native.Mathlib.Omega.{arith}
 use borrow.Author.Tests.{lt-ltb}
 use lib.Dec.{T, ltb}
-use lib.ListN.{length, getD, set, take, length-set}
-use lib.Seq.{take-suc, take-length, getD-set-other}
+use lib.ListN.{length, getD, set, take}
+use lib.Seq.{take-suc, take-length}
 use Rattle.model.specs.Strings.{Trit, t0, t1, t*, Trits, subsumes-digit, subsumes, all-zero, fixed, fixed-count, flipped, starred}
 use Rattle.model.specs.Growth.{Entries, subsumed, remove, append, grow, widen-at, widen-from, widen, widen-grow}
 use Rattle.model.proofs.Positions.{starred-covers}
@@ -17,10 +17,12 @@ use Rattle.model.proofs.Strings.{subsumes-covers, subsumes-exact}
 use Rattle.model.proofs.Tests.{tests, true-of}
 use Rattle.words.specs.Words.{lack-count, near}
 use Rattle.lists.specs.Lists.{Holds, near-list}
-use Rattle.lists.proofs.Holding.{holds-append, holds-length}
+use Rattle.lists.proofs.Idling.{subsumes-self}
+use Rattle.lists.proofs.Holding.{holds-append, holds-length, holds-past}
 
 -- ---- Subsumes
 
+-- by way of a third digit
 subsumes-digit-over : (t v u : Trit) → T (subsumes-digit t v) → T (subsumes-digit v u) → T (subsumes-digit t u)
 subsumes-digit-over t0 t0 u h k = k
 subsumes-digit-over t0 t1 u h k = absurd h
@@ -30,10 +32,7 @@ subsumes-digit-over t1 t1 u h k = k
 subsumes-digit-over t1 t* u h k = absurd h
 subsumes-digit-over t* v u h k = tt
 
--- a string subsumes itself, and goes on subsuming what it does where a position is made `*`
-over-self : (y : Trits) → T (subsumes y y)
-over-self y = subsumes-exact y y .1 (λ g c. c)
-
+-- a string goes on subsuming what it does where a position is made `*`
 over-starred : (i : ℕ) (z y : Trits) → T (subsumes z y) → T (subsumes (starred i z) y)
 over-starred i z y over = subsumes-exact (starred i z) y .1 (λ g c. starred-covers i z g (subsumes-covers z y g over c))
 
@@ -118,13 +117,13 @@ module _ (τ : Entries) (y : Trits) where
   -- to widen against the near entries is to widen against all
   pub near-widen : widen (near-list τ y) y ≡ widen τ y
   unfolding widen
-  near-widen = near-from τ 0 (length y) y y (over-self y)
+  near-widen = near-from τ 0 (length y) y y (subsumes-self y)
 
   -- what comes out is subsumed by a near entry exactly where it is by any
   pub near-subsumed : subsumed (near-list τ y) (widen τ y) ≡ subsumed τ (widen τ y)
   unfolding widen
   near-subsumed =
-      near-same τ y (widen τ y) (near-over (widen τ y) y (from-over τ 0 (length y) y y (over-self y)))
+      near-same τ y (widen τ y) (near-over (widen τ y) y (from-over τ 0 (length y) y y (subsumes-self y)))
 
 -- ---- Widen and grow, by what is known of the near entries
 
@@ -155,16 +154,6 @@ near-snoc (s ∷ τ) e y = go (near s y) (near-snoc τ e y)
         ≡ cond b (s ∷ near-list τ y) (near-list τ y) ++ cond (near e y) (e ∷ []) []
     go true ih = ap (λ (r : Entries). s ∷ r) ih
     go false ih = ih
-
--- a store past the count changes nothing of what is held
-pub holds-past : {l : ℕ} {list : List ℕ} {n : ℕ} {τ : Entries} → Holds l list n τ → (k y : ℕ) → n ≤ k → Holds l (set list k y) n τ
-holds-past {list = list} h k y le = record {
-  here = λ i lt. getD-set-other list k i y 0 (λ e. absurd (omega (arith, e))) ∙ h .here i lt;
-  room = length-set list k y ∙ h .room;
-  count = h .count;
-  good = h .good;
-  short = h .short;
-}
 
 -- the row holds the near ones of the first i entries; an entry is stored behind them, and counted where it is near
 module _ {l : ℕ} {list : List ℕ} {n : ℕ} {τ : Entries} (h : Holds l list n τ) (y : Trits) {row : List ℕ} {k i : ℕ}

@@ -155,7 +155,8 @@ module _ (l : ℕ) (text : List ℕ) where
         → e ≡ entry (string-at l text (i * (l + 2))) → Written l text (set care i (e .care)) (set value i (e .value)) (i + 1)
     unfolding strings-in count-in
     write-turn short lt e is =
-        let at = row-at (λ j. string-at l text (j * (l + 2))) 0 ((length text + 2) / (l + 2)) i lt ∙ ap (λ (j : ℕ). string-at l text (j * (l + 2))) (zero-add i) in
+        let f : ℕ → Trits = λ j. string-at l text (j * (l + 2)) in
+        let at = row-at f 0 ((length text + 2) / (l + 2)) i lt ∙ ap f (zero-add i) in
         let room : i < 256 = omega (arith, strings-few l (length text) short) in
         let stands = is ∙ ap entry (sym at) in (
           column-turn _ _ (so-far .0) (e .care) room (ap (λ (x : Entry). x .care) stands),

@@ -6,23 +6,13 @@ use mathlib.Core.List.{List, [], _∷_, _++_, append-nil}
 use Prim.Native.Nat.{ℕ, zero, suc, _+_, _-_, _≤_, _<_}
 use native.Mathlib.Numerals.{add-one}
 use native.Mathlib.Omega.{arith}
-use lib.ListN.{length, getD, set, drop, length-set, drop-of-length-le}
-use lib.Seq.{append-snoc, drop-cons, getD-set-other}
+use lib.ListN.{length, getD, set, drop, drop-of-length-le}
+use lib.Seq.{append-snoc, drop-cons}
 use Rattle.model.specs.Strings.{Trits, rising}
 use Rattle.model.specs.Growth.{Entries, limit}
 use Rattle.words.specs.Words.{word}
 use Rattle.lists.specs.Lists.{Holds}
-use Rattle.lists.proofs.Holding.{holds-empty, holds-append}
-
--- what is stored at the count or past it is not of the list
-pub holds-past : {l : ℕ} {list : List ℕ} {n : ℕ} {τ : Entries} → Holds l list n τ → (k y : ℕ) → n ≤ k → Holds l (set list k y) n τ
-holds-past {list = list} h k y le = record {
-  here = λ i lt. getD-set-other list k i y 0 (λ e. absurd (omega (arith, e))) ∙ h .here i lt;
-  room = length-set list k y ∙ h .room;
-  count = h .count;
-  good = h .good;
-  short = h .short;
-}
+use Rattle.lists.proofs.Holding.{holds-empty, holds-append, holds-past}
 
 -- Of the row of f at each of n indexes that passes p, strings of l positions: the array holds k strings, and with those of
 -- the indexes from i on they are the whole row.

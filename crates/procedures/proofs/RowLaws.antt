@@ -1,5 +1,5 @@
 -- What the rows hold at the end of their loops, and the tests that they are made with. Assumes nothing.
-use mathlib.Core.Path.{_≡_, refl, ap, ap₂, _∙_}
+use mathlib.Core.Path.{_≡_, refl, sym, ap, ap₂, _∙_}
 use mathlib.Core.Bool.{Bool, true, false, not, _&&_, cond}
 use mathlib.Core.List.{List, [], _∷_, _++_, map}
 use Prim.Native.Nat.{ℕ, zero, suc, _+_, _-_, _*_, _/_, _%_, _^_, _≤_, _<_}
@@ -14,7 +14,7 @@ use Rattle.model.specs.Strings.{t0, t1, t*, Trits, matches, meet, fixed, fixed-
 use Rattle.model.specs.Growth.{Entries, limit}
 use Rattle.model.specs.Tables.{meet-if, meets-with, kept}
 use Rattle.words.specs.Words.{care-of, word, set-word}
-use Rattle.words.proofs.Codec.{set-bit}
+use Rattle.words.proofs.Codec.{set-bit, digit-back}
 use Rattle.lists.specs.Lists.{Holds}
 use Rattle.lists.proofs.Holding.{holds-empty, holds-append}
 use Rattle.procedures.proofs.Filling.{Filling, fill-end, Along, along-end}
@@ -74,17 +74,11 @@ fixed-at i [] = refl
 fixed-at zero (t ∷ s) = refl
 fixed-at (suc i) (t ∷ s) = fixed-at i s
 
--- a digit is told by whether it is 1
-digit-back : (d : ℕ) → d < 2 → d ≡ cond (eqb d 1) 1 0
-digit-back zero h = refl
-digit-back (suc zero) h = refl
-digit-back (suc (suc d)) h = absurd (omega arith)
-
 -- bit i of the care word
 care-digit : (i : ℕ) (s : Trits) → care-of s / 2 ^ i % 2 ≡ cond (fixed i s) 1 0
 care-digit i s =
     let is : eqb (care-of s / 2 ^ i % 2) 1 ≡ fixed i s = rw (care-set s) (set-bit (map fixed-digit s) i ∙ fixed-at i s) in
-    digit-back _ (omega arith) ∙ ap (λ (b : Bool). cond b 1 0) is
+    sym (digit-back _ (omega arith)) ∙ ap (λ (b : Bool). cond b 1 0) is
 
 -- each of 32 bits is 1
 full-digit : (i : ℕ) → i < 32 → 4294967295 / 2 ^ i % 2 ≡ 1

@@ -137,7 +137,7 @@ unfolding Each
 sets-long l [] = tt
 sets-long l (w ∷ ws) = (set-length l w, sets-long l ws)
 
-digit-back : (d : ℕ) → d < 2 → cond (eqb d 1) 1 0 ≡ d
+pub digit-back : (d : ℕ) → d < 2 → cond (eqb d 1) 1 0 ≡ d
 digit-back zero h = refl
 digit-back (suc zero) h = refl
 digit-back (suc (suc d)) h = absurd (omega arith)

@@ -82,7 +82,8 @@ returns-3 c =
     let at-check = at-enum-told .before .before in
     let k = sym (keep-test _ _ _ (at-full .full .ensures)) ∙ not-false _ (at-if1 .if1 .left) in
     let below = set-word-set _ _ (keep-below _ _ k) in
-    let told = at-projection-list .projection-list .ensures .1 _ _ (good-list (checked at-enum-told) (at-load .load .ensures)) (set-length _ _) (sym below) in
+    let given = good-list (checked at-enum-told) (at-load .load .ensures) in
+    let told = at-projection-list .projection-list .ensures .1 _ _ given (set-length _ _) (sym below) in
     rw (sym (at-check .check .ensures .0) ∙ at-enum-told .enum-told .given .1, k)
     (rw (ap ones (sym below) ∙ kept-ones _) at (c .made-or-full .ensures) _ told)
 
