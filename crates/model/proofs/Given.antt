@@ -41,6 +41,18 @@ module _ {X : Type 0} where
   each f [] = tt
   each f (x ∷ xs) = (f x, each f xs)
 
+  -- What holds of each x, weakened.
+  pub each-to : {J K : X → Type 0} → ((x : X) → J x → K x) → (xs : List X) → Each J xs → Each K xs
+  unfolding Each
+  each-to f [] e = tt
+  each-to f (x ∷ xs) e = (f x (e .0), each-to f xs (e .1))
+
+  -- Two lists put together.
+  pub each-append : (J : X → Type 0) (xs ys : List X) → Each J xs → Each J ys → Each J (xs ++ ys)
+  unfolding Each
+  each-append J [] ys d e = e
+  each-append J (x ∷ xs) ys d e = (d .0, each-append J xs ys (d .1) e)
+
 -- what a step keeps, its fold keeps
 module _ {S X : Type 0} {I : S → Type 0} {J : X → Type 0} where
   pub fold-keeps : (step : S → X → Option S) → ((s : S) (x : X) → I s → J x → Given I (step s x))

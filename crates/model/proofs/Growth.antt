@@ -85,7 +85,8 @@ grows-appended : (τ : Entries) (y : Trits) → Grows τ y (remove y τ ++ (y �
 grows-appended τ y = record { adds = λ g n. appended-covered τ y g; within = λ g c. rw (appended-covered τ y g) at c }
 
 -- what is given by appending, where there is room
-append-gives : {P : Entries → Type 0} (τ : Entries) (y : Trits) → (length τ < limit → P (τ ++ (y ∷ []))) → Given P (append τ y)
+pub append-gives : {P : Entries → Type 0} (τ : Entries) (y : Trits) → (length τ < limit → P (τ ++ (y ∷ [])))
+    → Given P (append τ y)
 unfolding append
 append-gives {P} τ y p = go (ltb (length τ) limit) (ltb→lt (length τ) limit)
   where
@@ -111,7 +112,7 @@ grow-grows τ y = grow-gives τ y (grows-unchanged τ y) (λ n h. grows-appended
 
 module _ (τ : Entries) where
   -- z covers what y covers, and beyond that only what the list covers
-  abbrev Wider : Trits → Trits → Type 0
+  abbrev pub Wider : Trits → Trits → Type 0
   Wider z y = (g : Bits) → (T (covers y g) → T (covers z g)) × (T (covers z g) → T (covers y g || covered τ g))
 
   starred-wider : (i : ℕ) (y : Trits) → T (fixed i y) → T (subsumed τ (flipped i y)) → Wider (starred i y) y
@@ -150,7 +151,8 @@ module _ (τ : Entries) where
       wider-trans (widen-from τ (suc i) n (widen-at τ i y)) (widen-at τ i y) y (widen-from-wider (suc i) n (widen-at τ i y))
       (widen-at-wider i y)
 
-  widen-wider : (y : Trits) → Wider (widen τ y) y
+  -- Widening loses nothing, and adds only what the list covers.
+  pub widen-wider : (y : Trits) → Wider (widen τ y) y
   unfolding widen
   widen-wider y = widen-from-wider 0 (length y) y
 

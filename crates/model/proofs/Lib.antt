@@ -12,6 +12,11 @@ pub mod Candidates
 pub mod Closing
 pub mod PositiveEquation
 pub mod ChangeSide
+pub mod Subsuming
+pub mod Entries
+pub mod Pieces
+pub mod TakenAway
+pub mod Widest
 pub mod NegativeEquation
 pub mod Projection
 pub mod Variables

@@ -63,15 +63,16 @@ apart-after y (s ∷ τ) n = go (subsumes y s) refl (apart-after y τ (λ k. n (
     go true e h = h
     go false e h = ((λ k. rw e at k, λ k. n (or-left (subsumes s y) (subsumed τ y) k)), h)
 
-apart-snoc : (s y : Trits) (τ : Entries) → Apart s τ → ¬ (T (subsumes s y)) × ¬ (T (subsumes y s)) → Apart s (τ ++ (y ∷ []))
+-- A string apart from two lists is apart from both together.
+pub apart-append : (s : Trits) (τ ρ : Entries) → Apart s τ → Apart s ρ → Apart s (τ ++ ρ)
 unfolding Apart
-apart-snoc s y [] a b = (b, tt)
-apart-snoc s y (r ∷ τ) a b = (a .0, apart-snoc s y τ (a .1) b)
+apart-append s [] ρ a b = b
+apart-append s (r ∷ τ) ρ a b = (a .0, apart-append s τ ρ (a .1) b)
 
 reduced-snoc : (τ : Entries) (y : Trits) → Reduced τ → ¬ (T (all-zero y)) → Apart y τ → Reduced (τ ++ (y ∷ []))
 unfolding Reduced Apart
 reduced-snoc [] y h z a = (z, tt, tt)
-reduced-snoc (s ∷ τ) y h z a = (h .0, apart-snoc s y τ (h .1) (a .0 .1, a .0 .0), reduced-snoc τ y (h .2) z (a .1))
+reduced-snoc (s ∷ τ) y h z a = (h .0, apart-append s τ (y ∷ []) (h .1) ((a .0 .1, a .0 .0), tt), reduced-snoc τ y (h .2) z (a .1))
 
 -- y appended to what it leaves of a reduced list
 reduced-grown : (τ : Entries) (y : Trits) → Reduced τ → ¬ (T (all-zero y || subsumed τ y)) → Reduced (remove y τ ++ (y ∷ []))
@@ -174,14 +175,18 @@ unfolding remove Apart
 nothing-removed [] y a = refl
 nothing-removed (s ∷ τ) y a = rw (false-of (subsumes y s) (a .0 .0)) (ap (λ (r : Entries). s ∷ r) (nothing-removed τ y (a .1)))
 
-grow-clear : (τ : Entries) (y : Trits) → ¬ (T (all-zero y)) → Apart y τ → length τ < limit → grow τ y ≡ some (τ ++ (y ∷ []))
-unfolding grow append
-grow-clear τ y z a room =
+-- Growing by a string that is apart from every entry appends it.
+pub grow-apart : (τ : Entries) (y : Trits) → ¬ (T (all-zero y)) → Apart y τ → grow τ y ≡ append τ y
+unfolding grow
+grow-apart τ y z a =
     rw (
       false-of (all-zero y || subsumed τ y) (nor (all-zero y) (subsumed τ y) z (not-subsumed τ y a)),
       nothing-removed τ y a,
-      true-of (ltb (length τ) limit) (lt→ltb (length τ) limit room),
     )
+
+grow-clear : (τ : Entries) (y : Trits) → ¬ (T (all-zero y)) → Apart y τ → length τ < limit → grow τ y ≡ some (τ ++ (y ∷ []))
+unfolding append
+grow-clear τ y z a room = rw (grow-apart τ y z a, true-of (ltb (length τ) limit) (lt→ltb (length τ) limit room))
 
 regrow-from : (τ ys : Entries) → Reduced (τ ++ ys) → length (τ ++ ys) ≤ limit → fold grow τ ys ≡ some (τ ++ ys)
 unfolding fold _>>=_

@@ -2,6 +2,7 @@ pub mod Groups
 pub mod Strings
 pub mod Growth
 pub mod Tables
+pub mod Widest
 pub mod Full
 pub mod Questions
 pub mod Terms
