@@ -2,7 +2,7 @@
 use mathlib.Core.Bool.{Bool, true, false, not, _&&_, _||_, false≢true, cond, or-false, Bool·not-not}
 use mathlib.Core.List.{[], _∷_}
 use mathlib.Core.Path.{_≡_, refl, sym, ap, ap₂, _∙_}
-use Prim.Native.Nat.{ℕ, zero, suc, _+_, _-_, _*_, _%_, _^_, _<_, _≤_, suc-le-suc, zero-le}
+use Prim.Native.Nat.{ℕ, zero, suc, _+_, _-_, _*_, _%_, _^_, _<_, _≤_}
 use native.Mathlib.Nat.{pow-suc, suc-inj, suc-ne-zero, not-suc-le-zero, le-of-suc-le-suc}
 use native.Mathlib.Omega.{arith}
 use lib.Bits.{bitAnd, bitOr, and-block, and-zero-r, and-lt, mask-lt}
@@ -89,12 +89,6 @@ first-length [] i = refl
 first-length (b ∷ k) zero = ap suc (stars-length (length k))
 first-length (true ∷ k) (suc i) = ap suc (first-length k i)
 first-length (false ∷ k) (suc i) = ap suc (first-length k i)
-
--- a position of a set lies within it
-pub set-inside : (k : Bits) (i : ℕ) → getD k i false ≡ true → i < length k
-set-inside [] i h = absurd (false≢true h)
-set-inside (b ∷ k) zero h = suc-le-suc zero-le
-set-inside (b ∷ k) (suc i) h = suc-le-suc (set-inside k i h)
 
 -- what meets the set has a first variable of it
 pub first-of : (k g : Bits) → length g ≡ length k → meets k g ≡ true

@@ -16,11 +16,12 @@ use Rattle.model.specs.Questions.{every-group, stands-for, ground, independent}
 use Rattle.model.proofs.Bits.{meets-nonzero}
 use Rattle.model.proofs.Strings.{covers-length, meet-exact, both-match}
 use Rattle.model.proofs.Tests.{true-of}
+use Rattle.words.proofs.Codec.{set-inside}
 use Rattle.covering.specs.Covering.{all-covered}
 use Rattle.covering.specs.Sets.{greatest, first-string, apart}
 use Rattle.covering.proofs.Every.{test, bool-ext, untrue, both, left, right, implies, implied, group-true, group-at}
 use Rattle.covering.proofs.Every.{group-ext, group-and}
-use Rattle.covering.proofs.Firsts.{only, only-meets, one-covers, set-inside, first-of, first-meets, greatest-covered}
+use Rattle.covering.proofs.Firsts.{only, only-meets, one-covers, first-of, first-meets, greatest-covered}
 use Rattle.covering.proofs.Firsts.{meets-greatest}
 
 -- ---- Independent, positive: entry by entry

@@ -100,7 +100,7 @@ fn pack(list: &mut [u64; 256], j: usize, n: usize, y: u64) -> usize
 }
 
 // Appends y.
-fn append(list: &mut [u64; 256], n: usize, y: u64) -> Grown
+pub fn append(list: &mut [u64; 256], n: usize, y: u64) -> Grown
     requires { ⌜ n ≤ 256 ⌝ }
     ensures within { λ r. ⌜ Within r ⌝ }
     ensures made { λ r. ⌜

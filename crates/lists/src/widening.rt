@@ -3,8 +3,8 @@
 // gathered first; mostly there are none.
 use crate::Grown;
 ghost use mathlib.Core.Path.{_≡_};
-ghost use Prim.Native.Nat.{ℕ, _≤_, _<_, _^_};
-ghost use Rattle.model.specs.Growth.{Entries, fold, widen as widen-list, widen-grow as widen-grow-list};
+ghost use Prim.Native.Nat.{ℕ, _≤_};
+ghost use Rattle.model.specs.Growth.{widen as widen-list, widen-grow as widen-grow-list};
 ghost use Rattle.words.specs.Words.{word, set-word};
 ghost use Rattle.lists.specs.Lists.{Holds, OfString, Within, Makes, near-list, open-set as open-set-of};
 
@@ -91,36 +91,4 @@ pub fn widen_grow(list: &mut [u64; 256], n: usize, l: u32, y: u64, near: &mut [u
         return Grown::Count(n);
     }
     crate::growth::insert(list, n, l, z)
-}
-
-// The same with each of the m strings of a row, against the list as it then is, up to the first that is full.
-pub fn widen_each(
-    list: &mut [u64; 256],
-    n: usize,
-    l: u32,
-    row: &[u64; 256],
-    m: usize,
-    near: &mut [u64; 256],
-) -> Grown
-    requires { ⌜ (n ≤ 256) × (l ≤ 32) × (m ≤ 256) ⌝ }
-    ensures within { λ r. ⌜ Within r ⌝ }
-    ensures made { λ r. ⌜
-        ((τ ρ : Entries) → Holds l (now (list .entry)) n τ → Holds l (now (row .entry)) m ρ
-        → Makes l (now (list .exit)) r (fold widen-grow-list τ ρ))
-        ⌝ }
-{
-    let mut k = n;
-    let mut j = 0;
-    while j < m {
-        match widen_grow(list, k, l, row[j], near) {
-            Grown::Count(c) => {
-                k = c;
-            }
-            Grown::Full => {
-                return Grown::Full;
-            }
-        }
-        j += 1;
-    }
-    Grown::Count(k)
 }

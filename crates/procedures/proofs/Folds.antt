@@ -55,7 +55,7 @@ or-strings-comm (t ∷ s) [] = refl
 or-strings-comm (t ∷ s) (u ∷ r) = rw (or-digit-comm t u, or-strings-comm s r)
 
 -- to go on to what is given
-then-some : {A : Type 0} (o : Option A) → (o >>= λ a. some a) ≡ o
+pub then-some : {A : Type 0} (o : Option A) → (o >>= λ a. some a) ≡ o
 unfolding _>>=_
 then-some none = refl
 then-some (some a) = refl

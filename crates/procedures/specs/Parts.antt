@@ -7,8 +7,9 @@ use Prim.Native.Nat.{ℕ}
 use lib.ListN.{length}
 use Rattle.model.specs.Groups.{Bits}
 use Rattle.model.specs.Strings.{Trits, matches, zeros, pieces}
-use Rattle.model.specs.Growth.{_>>=_, fold, Entries, grow, widen-grow}
+use Rattle.model.specs.Growth.{_>>=_, Entries, grow}
 use Rattle.model.specs.Tables.{relevant, cross, close, change-side}
+use Rattle.model.specs.Widest.{fresh, append-all}
 use Rattle.words.specs.Words.{set-word}
 use Rattle.lists.specs.Lists.{Holds}
 
@@ -19,9 +20,9 @@ unfoldable pub matched : Trits → Entries → Entries
 matched v [] = []
 matched v (y ∷ τ) = cond (matches y v) (y ∷ matched v τ) (matched v τ)
 
--- The pieces of y that v leaves, widened and grown.
-unfoldable pub grow-pieces : Trits → Entries → Trits → Option Entries
-grow-pieces v τ y = fold widen-grow τ (pieces y v)
+-- The pieces of y that v leaves and no entry of κ subsumes, the all-zero one left out, appended.
+unfoldable pub append-pieces : Entries → Trits → Entries → Trits → Option Entries
+append-pieces κ v τ y = append-all τ (fresh κ (pieces y v))
 
 -- ---- Equations
 

@@ -6,10 +6,10 @@ ghost use mathlib.Core.List.{map};
 ghost use Prim.Native.Nat.{ℕ, _≤_};
 ghost use lib.ListN.{length};
 ghost use Rattle.model.specs.Groups.{Bits, cut as cut-string};
-ghost use Rattle.model.specs.Strings.{Trits, or-strings, ones, pieces};
+ghost use Rattle.model.specs.Strings.{or-strings, ones};
 ghost use Rattle.model.specs.Growth.{Entries};
 ghost use Rattle.model.specs.Tables.{meets-with, kept};
-ghost use Rattle.words.specs.Words.{word, set-word};
+ghost use Rattle.words.specs.Words.{set-word};
 ghost use Rattle.lists.specs.Lists.{Holds, OfString};
 ghost use Rattle.procedures.specs.Pairs.{row-of};
 
@@ -101,29 +101,6 @@ pub fn ones_row(m: u32, l: u32, row: &mut [u64; 256]) -> usize
     while i < l {
         if (m >> i) % 2 == 1 {
             row[k] = 1u64 << i;
-            k += 1;
-        }
-        i += 1;
-    }
-    k
-}
-
-// For each of the l positions, rising, where y is `*` and v is fixed: y with the opposite of v there.
-pub fn piece_row(y: u64, v: u64, l: u32, row: &mut [u64; 256]) -> usize
-    requires { ⌜ l ≤ 32 ⌝ }
-    ensures few { λ r. ⌜ r ≤ 256 ⌝ }
-    ensures made { λ r. ⌜
-        ((s t : Trits) → length s ≡ l → length t ≡ l → y ≡ word s → v ≡ word t → Holds l (now (row .exit)) r (pieces s t))
-        ⌝ }
-{
-    // As a slice its length is known.
-    let whole: &[u64] = &*row;
-    let open = words::fixed(v) & (words::fixed(y) ^ 4294967295);
-    let mut k = 0;
-    let mut i = 0u32;
-    while i < l {
-        if (open >> i) % 2 == 1 {
-            row[k] = words::opposed(y, v, i);
             k += 1;
         }
         i += 1;

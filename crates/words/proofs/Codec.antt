@@ -1,8 +1,8 @@
 -- The words of a string and the string of two words are each other's inverse; so are sets and their words. Assumes nothing.
 use mathlib.Core.Path.{_≡_, refl, sym, ap, ap₂, _∙_}
-use mathlib.Core.Bool.{Bool, true, false, _||_, not, cond}
+use mathlib.Core.Bool.{Bool, true, false, false≢true, _||_, not, cond}
 use mathlib.Core.List.{List, [], _∷_, map}
-use Prim.Native.Nat.{ℕ, zero, suc, _+_, _-_, _*_, _/_, _%_, _^_, _<_}
+use Prim.Native.Nat.{ℕ, zero, suc, _+_, _-_, _*_, _/_, _%_, _^_, _<_, suc-le-suc, zero-le}
 use native.Mathlib.Nat.{pow-suc, div-add-mod', div-one, zero-div, not-suc-le-zero, le-of-suc-le-suc}
 use native.Mathlib.Omega.{arith}
 use borrow.Author.Tests.{ne-eqb}
@@ -184,6 +184,12 @@ digit-at (b ∷ k) (suc i) = digit-at k i
 -- a position of a set is a bit of its word
 pub set-bit : (k : Bits) (i : ℕ) → eqb (set-word k / 2 ^ i % 2) 1 ≡ getD k i false
 set-bit k i = ap (λ (x : ℕ). eqb (x % 2) 1) (set-word-drop i k) ∙ digit-at k i
+
+-- a position of a set lies within it
+pub set-inside : (k : Bits) (i : ℕ) → getD k i false ≡ true → i < length k
+set-inside [] i h = absurd (false≢true h)
+set-inside (b ∷ k) zero h = suc-le-suc zero-le
+set-inside (b ∷ k) (suc i) h = suc-le-suc (set-inside k i h)
 
 -- a word is 0 exactly where its set is empty
 pub nonzero-word : (g : Bits) → nonzero g ≡ not (eqb (set-word g) 0)

@@ -5,3 +5,5 @@ pub mod Words
 pub mod Positions
 pub mod Gather
 pub mod OpeningLaws
+pub mod Clashes
+pub mod Clearing

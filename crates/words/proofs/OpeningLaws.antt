@@ -145,7 +145,7 @@ abbrev O : Trits → Trits → ℕ
 O e y = bitXor (bitAnd (value-of e) (value-of y)) (value-of e)
 
 -- the count of an operation at one position more
-ones-on : (F : Op) → Digitwise F → (t u : Trit) (e y : Trits)
+pub ones-on : (F : Op) → Digitwise F → (t u : Trit) (e y : Trits)
     → ones (on F (t ∷ e) (u ∷ y)) ≡ ones (on F e y) + ones (on-digit F t u)
 ones-on F f t u e y = ap ones (on-cons F f t u e y) ∙ ones-cat 1 (on F e y) (on-digit F t u) (on-digit-lt F f t u)
 

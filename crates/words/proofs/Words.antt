@@ -12,11 +12,11 @@ use lib.Dec.{eqb, lit<}
 use lib.ListN.{length}
 use lib.Pow.{pow-pos, pow-mono, shl-exact}
 use Rattle.model.specs.Groups.{Bits}
-use Rattle.model.specs.Strings.{Trit, t0, t1, t*, Trits, subsumes, subsumes-digit, zero-digit, all-zero, exactly, stars, one-at}
+use Rattle.model.specs.Strings.{Trit, t0, t1, t*, Trits, subsumes, subsumes-digit, zero-digit, all-zero, stars, one-at}
 use Rattle.model.specs.Strings.{zeros, fixed-digit, flip, match-digit, matches, meet-digit, meet, or-digit, or-strings}
 use Rattle.words.specs.Words.{value-bit, zero-bit, care-of, value-of, zeros-of, word, entry, set-word, word-of, entry-of}
 use Rattle.words.specs.Words.{care-bit, high, low, halves, fixed-word, subsumes-word, zero-word, starless, matches-word}
-use Rattle.words.specs.Words.{or-word, opposite-word}
+use Rattle.words.specs.Words.{clash-word, or-word, opposite-word}
 use Rattle.words.proofs.Digits.{zero-bit-lt, value-bit-lt, Digitwise, zero-l, value-l, zero-r, value-r, and-of, paired}
 use Rattle.words.proofs.Digits.{care-bit-lt, nothing, nine, or-of, on-cons, put, never, eqb-block, eqb-digit, eqb-cons}
 use Rattle.words.proofs.Codec.{value-stars}
@@ -166,7 +166,7 @@ word-starless s short = rw (care-word s short) (starless-care s)
 -- ---- Matches: no position is in both halves
 
 -- the positions in both halves of "a or b"
-clashing : Digitwise (λ p q r s. bitAnd (bitOr p r) (bitOr q s))
+pub clashing : Digitwise (λ p q r s. bitAnd (bitOr p r) (bitOr q s))
 clashing = and-of _ _ (or-of _ _ zero-l zero-r) (or-of _ _ value-l value-r)
 
 -- there is none, position by position
@@ -235,10 +235,16 @@ module _ (s t : Trits) (e : length s ≡ length t) (short : length s ≤ 32) whe
   low-or : low (bitOr (word s) (word t)) ≡ bitOr (value-of s) (value-of t)
   low-or = or-mod (word s) (word t) 32 ∙ ap₂ bitOr (low-word s short) (low-word t short-too)
 
+  -- the positions in both of them
+  pub word-clash : clash-word (word s) (word t)
+      ≡ bitAnd (bitOr (zeros-of s) (zeros-of t)) (bitOr (value-of s) (value-of t))
+  unfolding clash-word
+  word-clash = ap₂ bitAnd high-or low-or
+
   -- the test, the meet and the or of words are those of the strings
   pub word-matches : matches-word (word s) (word t) ≡ matches s t
   unfolding matches-word
-  word-matches = ap₂ (λ (x y : ℕ). eqb (bitAnd x y) 0) high-or low-or ∙ matches-halves s t e
+  word-matches = ap (λ (x : ℕ). eqb x 0) word-clash ∙ matches-halves s t e
 
   pub word-meet : matches s t ≡ true → bitOr (word s) (word t) ≡ word (meet s t)
   unfolding word

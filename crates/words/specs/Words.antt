@@ -136,9 +136,13 @@ fixed-word a = bitOr (high a) (low a)
 unfoldable pub subsumes-word : ℕ → ℕ → Bool
 subsumes-word a b = eqb (bitAnd a b) a
 
--- No position is in both halves of "a or b".
+-- The positions where one is 0 and the other 1: those in both halves of "a or b".
+unfoldable pub clash-word : ℕ → ℕ → ℕ
+clash-word a b = bitAnd (high (bitOr a b)) (low (bitOr a b))
+
+-- There is no such position.
 unfoldable pub matches-word : ℕ → ℕ → Bool
-matches-word a b = eqb (bitAnd (high (bitOr a b)) (low (bitOr a b))) 0
+matches-word a b = eqb (clash-word a b) 0
 
 -- 0 where both are 0, 1 where one is 1.
 unfoldable pub or-word : ℕ → ℕ → ℕ

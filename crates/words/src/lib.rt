@@ -8,16 +8,18 @@ ghost use mathlib.Core.List.{map};
 ghost use Prim.Native.Nat.{_-_, _^_, _≤_, _<_};
 ghost use lib.Bits.{bitOr};
 ghost use lib.Count.{ones};
-ghost use lib.Dec.{eqb};
+ghost use lib.Dec.{eqb, ltb};
 ghost use lib.ListN.{length};
 ghost use Rattle.model.specs.Groups.{Bits, cut as cut-string};
 ghost use Rattle.model.specs.Strings.{Trits, subsumes as subsumes-string, matches as matches-string, meet as meet-string};
 ghost use Rattle.model.specs.Strings.{or-strings, all-zero, fixed as fixed-string, fixed-count, flipped as flipped-string};
 ghost use Rattle.model.specs.Strings.{flip, starred as starred-string, opposed as opposed-string};
+ghost use Rattle.model.specs.Widest.{opposed-count};
 ghost use Rattle.words.specs.Words.{entry as entry-string, word as word-string, set-word, word-of, entry-of, fixed-word};
 ghost use Rattle.words.specs.Words.{care-of, subsumes-word, matches-word, or-word, zero-word, starless as starless-string};
 ghost use Rattle.words.specs.Words.{both as both-halves, flipped-word, starred-word, opposite-word, opposed-word, lacks-word};
 ghost use Rattle.words.specs.Words.{lone, near as near-string, openings as openings-string, openings-of, gather, cut-word};
+ghost use Rattle.words.specs.Words.{clash-word};
 
 // A half has 32 bits.
 const HALF: u64 = 4294967296;
@@ -79,6 +81,19 @@ pub fn matches(a: u64, b: u64) -> bool
 {
     let m = a | b;
     ((m >> 32) & (m % HALF)) == 0
+}
+
+// Are a and b opposed, one 0 and the other 1, at no more than one position?
+pub fn opposed_once(a: u64, b: u64) -> bool
+    ensures words { λ r. ⌜ r ≡ lone (clash-word a b) ⌝ }
+    ensures strings { λ r. ⌜
+        ((s t : Trits) → length s ≡ length t → length s ≤ 32 → a ≡ word-string s → b ≡ word-string t
+        → r ≡ ltb (opposed-count s t) 2)
+        ⌝ }
+{
+    let m = a | b;
+    let d = (m >> 32) & (m % HALF);
+    (d & std::num::wrapping_sub_u64(d, 1)) == 0
 }
 
 // The meet of strings that match.

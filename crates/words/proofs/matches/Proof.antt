@@ -1,11 +1,11 @@
 use mathlib.Core.Path.{refl}
-use Rattle.words.specs.Words.{matches-word}
+use Rattle.words.specs.Words.{clash-word, matches-word}
 use Rattle.words.proofs.Words.{word-matches}
 use Rattle.words.proofs.matches.Statement.{statement}
 use Rattle.words.proofs.matches.Tie as tie
 
 returns : tie.Need-returns
-unfolding matches-word
+unfolding matches-word clash-word
 returns c = (refl, λ s t n short ea eb. rw (ea, eb) (word-matches s t n short))
 
 pub matches-spec : {M : Type 1} → statement M

@@ -1,4 +1,8 @@
-use Rattle.procedures.proofs.Taking.{take-away-matched}
+use mathlib.Core.Path.{_≡_, sym, _∙_}
+use Prim.Native.Nat.{_-_}
+use native.Mathlib.Omega.{arith}
+use Rattle.lists.specs.Lists.{makes}
+use Rattle.procedures.proofs.Taking.{take-away-matched, take-away-none}
 use borrow.Author.Needs.{needs}
 use Rattle.procedures.proofs.sides.take_away.Statement.{statement}
 use Rattle.procedures.proofs.sides.take_away.Tie as tie
@@ -6,20 +10,39 @@ use Rattle.procedures.proofs.sides.take_away.Tie as tie
 take-requires : tie.Need-take-requires
 take-requires c κs = search needs
 
-sub-pieces-each : tie.Need-sub-pieces-each
-sub-pieces-each c = search needs
+returns : tie.Need-returns
+returns c = (
+  omega arith,
+  λ τ t h e is σ k.
+      let took = c .before .take .ensures .1 in
+      let none = c .if1 .taken in
+      let n = c .before .before .before .before .args .n in
+      let all : n - c .before .take .result ≡ n = omega arith in
+      rw (take-away-none k t (sym (took .0 _ τ t h e is .count) ∙ none)) (makes (rw all at (took .1 _ τ t h e is))),
+)
+
+sub-kept : tie.Need-sub-kept
+sub-kept c = search needs
+
+edge-row-requires : tie.Need-edge-row-requires
+edge-row-requires c κs = search needs
 
 pieces-each-requires : tie.Need-pieces-each-requires
 pieces-each-requires c κs = search needs
 
-returns : tie.Need-returns
-returns c =
-    let at-take = c .before .before .before .before .before in
+returns-2 : tie.Need-returns-2
+returns-2 c =
+    let at-edges = c .before .before .before .before in
+    let at-take = at-edges .before .before .before .before in
     let took = at-take .take .ensures .1 in
     let p = c .pieces-each .ensures in (
       p .0,
-      λ τ t h e is. rw (take-away-matched τ t) (p .1 _ _ t (took .1 _ τ t h e is) (took .0 _ τ t h e is) e is),
+      λ τ t h e is σ k.
+          let left = took .1 _ τ t h e is in
+          rw (take-away-matched k t)
+          (p .1 _ _ _ t left (took .0 _ τ t h e is) (at-edges .edge-row .ensures .1 _ _ t left e is) e is),
     )
 
 pub take-away-spec : {M : Type 1} → statement M
-take-away-spec = tie.close (tie.spec take-requires sub-pieces-each pieces-each-requires returns)
+take-away-spec =
+    tie.close (tie.spec take-requires returns sub-kept edge-row-requires pieces-each-requires returns-2)
