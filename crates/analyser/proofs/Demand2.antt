@@ -23,24 +23,24 @@ use Rattle.tables.specs.Values.{table-of, zero-table, accepts, refuses, good-wi
 use Rattle.tables.proofs.Checking.{good-passes, good-long}
 use Rattle.tables.proofs.Numbers.{within, one-of-more}
 use Rattle.terms.specs.Checks as C
-use Rattle.sharing.specs.Calls.{good-keep, join-call, projection-call, change-side-call}
-use Rattle.sharing.specs.Outcomes.{TableValue, groups-of, Becomes, Outcome, early, full, accepted, EquationNeeds, JoinNeeds}
-use Rattle.sharing.specs.Outcomes.{ProjectionNeeds, ChangeNeeds}
-use Rattle.sharing.proofs.Demand2.{convert-outcome, equation-outcome, join-outcome, projection-outcome, change-outcome}
-use Rattle.sharing.proofs.Exclusive.{Conditions, single, test, and-then, as-said, table-conditions, term-conditions}
-use Rattle.sharing.proofs.Exclusive.{convert-conditions}
+use Rattle.operations.specs.Operations.{good-keep, join-call, projection-call, change-side-call}
+use Rattle.operations.specs.Outcomes.{TableValue, groups-of, Becomes, Outcome, early, full, accepted, EquationNeeds, JoinNeeds}
+use Rattle.operations.specs.Outcomes.{ProjectionNeeds, ChangeNeeds}
+use Rattle.operations.proofs.Demand2.{convert-outcome, equation-outcome, join-outcome, projection-outcome, change-outcome}
+use Rattle.operations.proofs.Exclusive.{Conditions, single, test, and-then, as-said, table-conditions, term-conditions}
+use Rattle.operations.proofs.Exclusive.{convert-conditions}
 use Rattle.forms.specs.declared.Extent.the-variants.{Whole}
-use Rattle.forms.specs.Tables.{sized, first-size, second-size, written-entries, read-entries, read-sized, read-table, Passed}
+use Rattle.forms.specs.TableForms.{sized, first-size, second-size, written-entries, read-entries, read-sized, read-table, Passed}
 use Rattle.forms.proofs.Reading.{entries-grow, read-good, read-groups}
 use Rattle.forms.proofs.Tests.{passed-reads}
 use Rattle.forms.proofs.Numbers.{read-numbers}
-use Rattle.byte_calls.specs.Calls.{check-bytes, tokens-of, term-call, after-read, change-side-bytes, equation-bytes, join-bytes}
-use Rattle.byte_calls.specs.Calls.{projection-bytes}
-use Rattle.byte_calls.proofs.Going.{term-refused, term-bytes-numbers}
+use Rattle.byte_calls.specs.ByteCalls.{check-bytes, tokens-of, term-call, refuses-zero, after-read, change-side-bytes}
+use Rattle.byte_calls.specs.ByteCalls.{equation-bytes, join-bytes, projection-bytes}
+use Rattle.byte_calls.proofs.AfterChecks.{term-passed, term-bytes-refused, term-bytes-numbers}
 use Rattle.analyser.specs.Demand2.{Reads, Unread, Fails, entries-clean, right-length, FormEarly, AfterRead}
 use Rattle.analyser.specs.Demand2.{ReadAnd, TermEarly, TermReady, SecondEarly, SecondReady, ReadExported}
 use Rattle.analyser.specs.Demand2.{ConvertExported, ChangeExported, EquationExported, ProjectionExported, JoinExported}
-use Rattle.analyser.proofs.ByBytes.{call-by-bytes, call-unread, term-passed}
+use Rattle.analyser.proofs.ByBytes.{call-by-bytes, call-unread}
 use Rattle.analyser.proofs.ReadsBack.{read-made, convert-made, change-side-made, equation-made, join-made}
 use Rattle.analyser.proofs.ReadsBack.{projection-made}
 use Rattle.analyser.proofs.HandedBack.{exported}
@@ -132,18 +132,20 @@ module _ (b : List ℕ) {G : Table → Refusal → Type 0} {H : Table → Type 0
   -- a call that goes on with the table that was read
   read-outcome : {F : (t : Table) → H t → Type 0} {S : (t : Table) → H t → Table → Type 0} (go : Table → Answered)
       → ((t : Table) → Reads b t → (w : Table) × Outcome w (G t) (H t) (F t) (S t) (go t))
-      → (w : Table) × Outcome w (AfterRead b G) (ReadAnd b H) (λ q. F (q .table) (q .ready)) (λ q. S (q .table) (q .ready)) (after-read b go)
+      → (w : Table) × Outcome w (AfterRead b G) (ReadAnd b H) (λ q. F (q .table) (q .ready)) (λ q. S (q .table) (q .ready))
+      (after-read b refuses-zero go)
   read-outcome {F} {S} go f = ⊎-elim refused-first went (reads-or-not (form-outcome b))
     where
       Result : Type 0
       Result = (w : Table)
-          × Outcome w (AfterRead b G) (ReadAnd b H) (λ q. F (q .table) (q .ready)) (λ q. S (q .table) (q .ready)) (after-read b go)
+          × Outcome w (AfterRead b G) (ReadAnd b H) (λ q. F (q .table) (q .ready)) (λ q. S (q .table) (q .ready))
+          (after-read b refuses-zero go)
 
       refused-first : ((r : Refusal) × Unread b r) → Result
       refused-first h = (
         zero-table,
         subst (Outcome zero-table (AfterRead b G) (ReadAnd b H) (λ q. F (q .table) (q .ready)) (λ q. S (q .table) (q .ready)))
-            (sym (call-unread b (h .1) go)) (early (inl (h .1))),
+            (sym (call-unread b (h .1) refuses-zero go)) (early (inl (h .1))),
       )
 
       went : ((t : Table) × Reads b t) → Result
@@ -151,7 +153,7 @@ module _ (b : List ℕ) {G : Table → Refusal → Type 0} {H : Table → Type 0
           let o = f (h .0) (h .1) in (
             o .0,
             subst (Outcome (o .0) (AfterRead b G) (ReadAnd b H) (λ q. F (q .table) (q .ready)) (λ q. S (q .table) (q .ready)))
-                (sym (call-by-bytes b (h .1) go))
+                (sym (call-by-bytes b (h .1) refuses-zero go))
                 (outcome-as (λ r e. inr (h .0, h .1, e)) (λ p. record { table = h .0; reads = h .1; ready = p })
                 (λ p. (λ k. k, λ k. k)) (λ p u k. k) (o .1)),
           )
@@ -243,13 +245,14 @@ module _ (side : Side) (x : ℕ) (term : List ℕ) where
       (term-call side t x term)
   term-outcome t value passes = go (check-bytes term) refl
     where
-      Told : Answered → Type 0
-      Told = Outcome t (TermEarly x term t) (TermReady x term t) (λ p. EquationNeeds side t x (p .right)) (EquationResult t)
+      TermOutcome : Answered → Type 0
+      TermOutcome =
+          Outcome t (TermEarly x term t) (TermReady x term t) (λ p. EquationNeeds side t x (p .right)) (EquationResult t)
 
-      go : (w : Answer) → check-bytes term ≡ w → Told (term-call side t x term)
-      go (Refused r) e = subst Told (term-refused side t x term passes e) (early (inl e))
+      go : (w : Answer) → check-bytes term ≡ w → TermOutcome (term-call side t x term)
+      go (Refused r) e = subst TermOutcome (term-bytes-refused side t x term passes e) (early (inl e))
       go Accepted e =
-          subst Told (sym (term-passed side t x term e))
+          subst TermOutcome (sym (term-passed side t x term e))
           (outcome-as (λ r. ⊎-elim (λ k. unrefused t passes k) (λ k. inr (e, k .1))) (λ p. record { passes = e; right = p .term; reads = p .reads })
           (λ p. (λ k. k, λ k. k)) (λ p u k. k) (equation-outcome side t x (tokens-of term) value))
 
@@ -302,7 +305,8 @@ module _ (side : Side) (b c : List ℕ) where
   -- the join of two tables that were read
   second-outcome : (t : Table) → Reads b t
       → (w : Table) × Outcome w (SecondEarly c t) (SecondReady c t) (λ q. JoinNeeds side t (q .table))
-      (λ q. Becomes side (t .l) (Joined (groups-of side t) (groups-of side (q .table)))) (after-read c (join-call side t))
+      (λ q. Becomes side (t .l) (Joined (groups-of side t) (groups-of side (q .table))))
+      (after-read c refuses-zero (join-call side t))
   second-outcome t e = read-outcome c (join-call side t) (λ u d. (
     t,
     outcome-as
@@ -323,4 +327,4 @@ module _ (side : Side) (b c : List ℕ) where
       (λ p q f.
       subst (λ (u : Table). JoinNeeds side (q .table) u) (read-one c (p .ready .reads) (q .ready .reads))
       (subst (λ (t : Table). JoinNeeds side t (p .ready .table)) (read-one b (p .reads) (q .reads)) f))
-      (read-outcome b (λ t. after-read c (join-call side t)) second-outcome .1) (join-made side b c) out
+      (read-outcome b (λ t. after-read c refuses-zero (join-call side t)) second-outcome .1) (join-made side b c) out

@@ -15,20 +15,20 @@ use Rattle.tables.specs.declared.Refusal.the-variants as R
 use Rattle.tables.specs.declared.Answer.{Answer}
 use Rattle.tables.specs.declared.Answer.the-variants.{Accepted, Refused}
 use Rattle.tables.specs.declared.Answered.{Answered}
-use Rattle.tables.specs.Refusals.{refusal-number, answer-number}
+use Rattle.tables.specs.Refusals.{refusal-number, answer-number, if-accepted}
 use Rattle.tables.specs.Values.{refuses, made-or-full, GoodTable}
 use Rattle.terms.specs.Checks as C
-use Rattle.sharing.specs.Calls.{side-told, equation-call}
+use Rattle.operations.specs.Operations.{side-numbered, equation-call}
 use Rattle.codec.specs.Numbers.{numbers}
 use Rattle.codec.proofs.Laws.{length-numbers}
 use Rattle.forms.specs.declared.Extent.the-variants.{Whole}
-use Rattle.forms.specs.Tables.{first-size, second-size}
-use Rattle.forms.specs.Equations.{Written, lefts, counts, share-out, equations-of, after-equation, check-each, check-equations}
+use Rattle.forms.specs.TableForms.{first-size, second-size}
+use Rattle.forms.specs.EquationForms.{Written, lefts, counts, share-out, equations-of, check-each, check-equations}
 use Rattle.forms.proofs.Tests.{equations-passed}
 use Rattle.forms.proofs.Reading.{read-good}
-use Rattle.running.specs.States.{state, none-applied, go-on, run-from, run-state}
-use Rattle.running.proofs.Steps.{run-unread, run-unchecked, run-goes}
-use Rattle.analyser.specs.Runs.{Ends, through, full}
+use Rattle.running.specs.States.{state, none-applied, run-from, run-state}
+use Rattle.running.proofs.Beginning.{run-unread, run-unchecked, run-goes}
+use Rattle.analyser.specs.RunEnds.{Ends, through, full}
 use Rattle.analyser.proofs.Equations.{called, accepted-exact}
 use Rattle.analyser.specs.Demand2.{Reads, Unread}
 
@@ -71,10 +71,10 @@ equations-many e m b =
 -- equations that pass their checks: the first reads, and the rest pass
 first-reads : (l : ℕ) (w : Written) (ws : List Written) → check-each l (w ∷ ws) ≡ Accepted
     → ((u : Term) × (C.check-equation l (w .left) (w .tokens) ≡ C.reads u)) × (check-each l ws ≡ Accepted)
-unfolding check-each after-equation
+unfolding check-each C.if-read
 first-reads l w ws e = go (C.check-equation l (w .left) (w .tokens)) refl e
   where
-    go : (o : C.Outcome Term) → C.check-equation l (w .left) (w .tokens) ≡ o → after-equation o (check-each l ws) ≡ Accepted
+    go : (o : C.Outcome Term) → C.check-equation l (w .left) (w .tokens) ≡ o → C.if-read o Refused (λ u. check-each l ws) ≡ Accepted
         → ((u : Term) × (C.check-equation l (w .left) (w .tokens) ≡ C.reads u)) × (check-each l ws ≡ Accepted)
     go (C.reads u) h f = ((u, h), f)
     go (C.refuses r) h f = absurd (let z : _≡_ {A = ℕ} 0 1 = cc in omega arith)
@@ -107,24 +107,24 @@ module _ (side : Side) (t : Table) (w : Written) (ws : List Written) (good : Goo
 
 from-ends : (side : ℕ) (ws : List Written) (t : Table) (k : ℕ) → GoodTable t → check-each (t .l) ws ≡ Accepted
     → Ends (run-from side t k ws) (k + length ws)
-unfolding run-from go-on
+unfolding run-from if-accepted
 from-ends side [] t k good e = through refl (omega arith)
 from-ends side (w ∷ ws) t k good e = go (next .answer) refl (λ u. from-ends side ws u (k + 1))
   where
     next : Answered
-    next = equation-call (side-told side) t (w .left) (w .tokens)
+    next = equation-call (side-numbered side) t (w .left) (w .tokens)
 
     go : (y : Answer) → next .answer ≡ y
         → ((u : Table) → GoodTable u → check-each (u .l) ws ≡ Accepted → Ends (run-from side u (k + 1) ws) ((k + 1) + length ws))
-        → Ends (go-on y (state (answer-number (next .answer)) side k (next .table)) (run-from side (next .table) (k + 1) ws))
+        → Ends (if-accepted y (λ r. state (refusal-number r) side k (next .table)) (run-from side (next .table) (k + 1) ws))
         (k + suc (length ws))
     go Accepted h later =
-        let on = first-accepted (side-told side) t w ws good e h in
+        let on = first-accepted (side-numbered side) t w ws good e h in
         let same : (k + 1) + length ws ≡ k + suc (length ws) = omega arith in
         subst (Ends (run-from side (next .table) (k + 1) ws)) same (later (next .table) (on .0) (on .1))
     go (Refused r) h later =
-        let is = first-refused (side-told side) t w ws good e h in
-        full (ap (λ (y : Answered). answer-number (y .answer)) is) (omega arith)
+        let is = first-refused (side-numbered side) t w ws good e h in
+        full (ap answer-number (sym h ∙ ap (λ (y : Answered). y .answer) is)) (omega arith)
 
 -- A run whose input passes its checks ends accepted with all its equations applied, or full with fewer.
 pub run-ends : (side : ℕ) (b q : List ℕ) (t : Table) → Reads b t → check-equations (t .l) q ≡ Accepted

@@ -24,12 +24,13 @@ use Rattle.tables.specs.declared.Refusal.the-variants as R
 use Rattle.tables.specs.declared.Answer.{Answer}
 use Rattle.tables.specs.declared.Answer.the-variants.{Accepted, Refused}
 use Rattle.tables.specs.declared.Answered.{Answered}
+use Rattle.tables.specs.Refusals.{if-accepted}
 use Rattle.tables.specs.Values.{table-of, entries-of, refuses, made-or-full, GoodTable}
 use Rattle.tables.proofs.Values.{entries-of-table, table-of-good}
 use Rattle.tables.proofs.Checking.{good-passes}
 use Rattle.terms.specs.Checks as C
-use Rattle.sharing.specs.Calls.{after-check, after-term, equation-call}
-use Rattle.sharing.specs.Outcomes.{groups-of}
+use Rattle.operations.specs.Operations.{equation-call}
+use Rattle.operations.specs.Outcomes.{groups-of}
 use Rattle.analyser.specs.Demand3.{term-read, equation-given, event-of}
 
 -- ---- What was read
@@ -61,20 +62,20 @@ module _ (side : Side) (t : Table) (x : ℕ) (ts : List ℕ) (good : GoodTable t
   made = equation side (t .l) given (entries-of t)
 
   -- the call after its table was checked
-  checked-first : call ≡ after-term (C.check-equation (t .l) x ts) t (λ u.
+  checked-first : call ≡ C.if-read (C.check-equation (t .l) x ts) (λ r. refuses r t) (λ u.
       made-or-full (t .l) t (equation side (t .l) (record { left = x; right = u }) (entries-of t)))
-  unfolding equation-call after-check
+  unfolding equation-call if-accepted
   checked-first = rw (good-passes t good)
 
   -- A call whose equation reads is decided by the growth rule.
   pub called : (u : Term) → C.check-equation (t .l) x ts ≡ C.reads u → call ≡ made-or-full (t .l) t made
-  unfolding after-term term-read
+  unfolding C.if-read term-read
   called u e =
       checked-first ∙ rw (e, read-whole (t .l) x ts u e)
 
   -- A call whose equation does not read is refused, with the table as given.
   pub uncalled : (r : Refusal) → C.check-equation (t .l) x ts ≡ C.refuses r → call ≡ refuses r t
-  unfolding after-term
+  unfolding C.if-read
   uncalled r e = checked-first ∙ rw e
 
   -- the table that an accepted call makes

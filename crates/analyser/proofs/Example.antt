@@ -1,7 +1,7 @@
 -- The premises of demand 3 of a list of calls can be met: from three unbound variables, X1 = f(X2, X3) on a table value, X4 = X1,
 -- which is refused, and X2 = g(X3) on byte buffers, whose table is the form of the one that the calls before it returned. Each
 -- accepted one has an admitted unifier that touches a variable, and the last table describes the bindings that are reached.
--- This list is told of either side; here it is concluded of the positive one. Assumes nothing.
+-- This list is stated of either side; here it is concluded of the positive one. Assumes nothing.
 use mathlib.Core.Path.{_≡_, refl}
 use mathlib.Core.Bool.{true}
 use mathlib.Core.List.{List, [], _∷_}
@@ -23,8 +23,8 @@ use Rattle.tables.specs.declared.Refusal.the-variants as R
 use Rattle.tables.specs.declared.Answer.the-variants.{Accepted}
 use Rattle.tables.specs.Values.{table-of, good-width, GoodTable}
 use Rattle.terms.specs.Checks as C
-use Rattle.sharing.specs.Outcomes.{groups-of}
-use Rattle.byte_calls.specs.Calls.{check-bytes, tokens-of}
+use Rattle.operations.specs.Outcomes.{groups-of}
+use Rattle.byte_calls.specs.ByteCalls.{check-bytes, tokens-of}
 use Rattle.analyser.specs.Demand3.{Calls}
 use Rattle.analyser.specs.Demand3 as S
 use Rattle.analyser.proofs.Demand3.{calls-described}

@@ -26,48 +26,48 @@ use Rattle.tables.specs.declared.Refusal.the-variants as R
 use Rattle.tables.specs.declared.Answer.{Answer}
 use Rattle.tables.specs.declared.Answer.the-variants.{Accepted, Refused}
 use Rattle.tables.specs.declared.Answered.{Answered}
+use Rattle.tables.specs.Refusals.{if-accepted}
 use Rattle.tables.specs.Values.{entries-of, accepts, check-table}
-use Rattle.sharing.specs.Calls.{convert-call, join-call, projection-call, change-side-call}
-use Rattle.sharing.specs.Outcomes.{TableValue, groups-of, Outcome}
-use Rattle.sharing.proofs.Demand2.{result, convert-outcome, join-outcome, projection-outcome, change-outcome}
+use Rattle.operations.specs.Operations.{convert-call, join-call, projection-call, change-side-call}
+use Rattle.operations.specs.Outcomes.{TableValue, groups-of, Outcome}
+use Rattle.operations.proofs.Demand2.{result, convert-outcome, join-outcome, projection-outcome, change-outcome}
 use Rattle.questions.specs.declared.Reply.{Reply}
 use Rattle.questions.specs.declared.Reply.the-variants as Q
 use Rattle.questions.specs.declared.Reply.the-variants.{Yes, No}
 use Rattle.questions.specs.Replies.{replies, good-sets, equal-call, ground-call, independent-call}
-use Rattle.questions.specs.Replies as Replies
 use Rattle.questions.proofs.Exact.{equal-sides}
 use Rattle.forms.specs.declared.Extent.the-variants.{Front}
-use Rattle.forms.specs.Tables.{read-table}
-use Rattle.byte_calls.specs.Calls.{change-side-bytes, join-bytes, projection-bytes, equal-bytes, ground-bytes}
-use Rattle.byte_calls.specs.Calls.{independent-bytes}
-use Rattle.outputs.specs.Outputs.{put-answer, put-bytes}
-use Rattle.analyser.specs.Goals.{Writes}
+use Rattle.forms.specs.TableForms.{read-table}
+use Rattle.byte_calls.specs.ByteCalls.{change-side-bytes, join-bytes, projection-bytes, equal-bytes, ground-bytes}
+use Rattle.byte_calls.specs.ByteCalls.{independent-bytes}
+use Rattle.byte_calls.specs.Outputs.{output-answer, output-bytes}
+use Rattle.analyser.specs.HandedOn.{Writes}
 use Rattle.analyser.specs.Demand2.{Reads}
 use Rattle.analyser.proofs.ByBytes.{change-side-by-bytes, projection-by-bytes, join-by-bytes, equal-by-bytes}
 use Rattle.analyser.proofs.ByBytes.{ground-by-bytes, independent-by-bytes}
 use Rattle.analyser.proofs.HandedBack.{answer-is}
 use Rattle.analyser.proofs.Demand2.{read-value}
-use Rattle.analyser.proofs.ReadsBack.{put-accepted, convert-reads, change-side-reads, join-reads}
+use Rattle.analyser.proofs.ReadsBack.{output-accepted, convert-reads, change-side-reads, join-reads}
 use Rattle.analyser.proofs.ReadsBack.{projection-reads}
 
 -- ---- Questions that are answered
 
 -- a table's own check goes first
-checked-told : (c : Answer) (q : Reply) (y : Bool) → Replies.after-check c q ≡ replies y → q ≡ replies y
-unfolding Replies.after-check replies
-checked-told Accepted q y e = e
-checked-told (Refused r) q true e = absurd (let z : _≡_ {A = ℕ} 0 1 = cc in omega arith)
-checked-told (Refused r) q false e = absurd (let z : _≡_ {A = ℕ} 0 1 = cc in omega arith)
+checked-reply : (c : Answer) (q : Reply) (y : Bool) → if-accepted c Q.Refused q ≡ replies y → q ≡ replies y
+unfolding if-accepted replies
+checked-reply Accepted q y e = e
+checked-reply (Refused r) q true e = absurd (let z : _≡_ {A = ℕ} 0 1 = cc in omega arith)
+checked-reply (Refused r) q false e = absurd (let z : _≡_ {A = ℕ} 0 1 = cc in omega arith)
 
 -- then the question's own test
-tested-told : (c b y : Bool) (r : Refusal) → cond c (replies b) (Q.Refused r) ≡ replies y → (c ≡ true) × (b ≡ y)
+tested-reply : (c b y : Bool) (r : Refusal) → cond c (replies b) (Q.Refused r) ≡ replies y → (c ≡ true) × (b ≡ y)
 unfolding replies
-tested-told true true true r e = (refl, refl)
-tested-told true true false r e = absurd (let z : _≡_ {A = ℕ} 0 1 = cc in omega arith)
-tested-told true false true r e = absurd (let z : _≡_ {A = ℕ} 0 1 = cc in omega arith)
-tested-told true false false r e = (refl, refl)
-tested-told false b true r e = absurd (let z : _≡_ {A = ℕ} 0 1 = cc in omega arith)
-tested-told false b false r e = absurd (let z : _≡_ {A = ℕ} 0 1 = cc in omega arith)
+tested-reply true true true r e = (refl, refl)
+tested-reply true true false r e = absurd (let z : _≡_ {A = ℕ} 0 1 = cc in omega arith)
+tested-reply true false true r e = absurd (let z : _≡_ {A = ℕ} 0 1 = cc in omega arith)
+tested-reply true false false r e = (refl, refl)
+tested-reply false b true r e = absurd (let z : _≡_ {A = ℕ} 0 1 = cc in omega arith)
+tested-reply false b false r e = absurd (let z : _≡_ {A = ℕ} 0 1 = cc in omega arith)
 
 module _ (side : Side) (t : Table) where
   -- ---- Independent
@@ -77,10 +77,10 @@ module _ (side : Side) (t : Table) where
     abbrev apart : Bool
     apart = independent side (t .l) (entries-of t) (set (t .l) a) (set (t .l) b)
 
-    -- the reply tells it
-    independent-told : (y : Bool) → independent-call side t a b ≡ replies y → apart ≡ y
+    -- a reply is the test's answer
+    independent-reply : (y : Bool) → independent-call side t a b ≡ replies y → apart ≡ y
     unfolding independent-call
-    independent-told y e = tested-told (good-sets (t .l) a b) apart y R.Name (checked-told (check-table t) _ y e) .1
+    independent-reply y e = tested-reply (good-sets (t .l) a b) apart y R.Name (checked-reply (check-table t) _ y e) .1
 
     -- it holds exactly where no group meets both sets
     independent-test : T apart ↔ Independent (groups-of side t) (set (t .l) a) (set (t .l) b)
@@ -92,7 +92,7 @@ module _ (side : Side) (t : Table) where
     unfolding replies
     independent-goals θ e d =
         independent-shares-none (groups-of side t) θ d (set (t .l) a) (set (t .l) b)
-        (independent-test .0 (rw (independent-told true e) tt))
+        (independent-test .0 (rw (independent-reply true e) tt))
 
     -- Where they are said not to be, the table does not rule out that goals on them share: not for all bindings that it
     -- describes do they share none.
@@ -100,40 +100,41 @@ module _ (side : Side) (t : Table) where
         → ¬ ((θ : Bindings) → Describes (groups-of side t) θ → ShareNone θ (set (t .l) a) (set (t .l) b))
     unfolding replies
     independent-no e f =
-        rw (independent-told false e) at
+        rw (independent-reply false e) at
         (independent-test .1 (shares-none-independent (groups-of side t) (set (t .l) a) (set (t .l) b) f))
 
   -- ---- Ground
 
   module _ (x : ℕ) where
-    -- the reply tells the test
-    ground-told : (y : Bool) → ground-call side t x ≡ replies y → ground side (t .l) (entries-of t) x ≡ y
+    -- a reply is the test's answer
+    ground-reply : (y : Bool) → ground-call side t x ≡ replies y → ground side (t .l) (entries-of t) x ≡ y
     unfolding ground-call
-    ground-told y e = tested-told (named (t .l) x) _ y R.Name (checked-told (check-table t) _ y e) .1
+    ground-reply y e = tested-reply (named (t .l) x) _ y R.Name (checked-reply (check-table t) _ y e) .1
 
     -- Where a program variable is said to be ground, its term has no run-time variable.
     pub ground-goal : (θ : Bindings) → ground-call side t x ≡ Yes → Describes (groups-of side t) θ → NoVariable θ x
     unfolding replies
     ground-goal θ e d =
-        ground-no-variable (groups-of side t) θ d x (ground-exact side (t .l) (entries-of t) x .0 (rw (ground-told true e) tt))
+        ground-no-variable (groups-of side t) θ d x
+        (ground-exact side (t .l) (entries-of t) x .0 (rw (ground-reply true e) tt))
 
     -- Where it is said not to be, not for all bindings that the table describes has its term none.
     pub ground-no : ground-call side t x ≡ No → ¬ ((θ : Bindings) → Describes (groups-of side t) θ → NoVariable θ x)
     unfolding replies
     ground-no e f =
-        rw (ground-told false e) at
+        rw (ground-reply false e) at
         (ground-exact side (t .l) (entries-of t) x .1 (no-variable-ground (groups-of side t) x f))
 
   -- ---- Equal
 
   module _ (u : Table) where
-    -- the reply tells that the widths are the same, and the test
-    equal-told : (y : Bool) → equal-call t u ≡ replies y
+    -- where there is a reply the widths are the same, and it is the test's answer
+    equal-reply : (y : Bool) → equal-call t u ≡ replies y
         → (t .l ≡ u .l) × (equal side (t .l) (entries-of t) (entries-of u) ≡ y)
     unfolding equal-call
-    equal-told y e =
-        let r = tested-told (eqb (t .l) (u .l)) _ y R.Unlike
-        (checked-told (check-table u) _ y (checked-told (check-table t) _ y e)) in
+    equal-reply y e =
+        let r = tested-reply (eqb (t .l) (u .l)) _ y R.Unlike
+        (checked-reply (check-table u) _ y (checked-reply (check-table t) _ y e)) in
         (eqb-true (t .l) (u .l) (r .0), sym (equal-sides side (t .l) (entries-of t) (entries-of u)) ∙ r .1)
 
     -- it holds exactly where the groups are the same
@@ -148,7 +149,7 @@ module _ (side : Side) (t : Table) where
     pub equal-describes : (θ : Bindings) → equal-call t u ≡ Yes → Describes (groups-of side t) θ ↔ Describes (groups-of side u) θ
     unfolding replies
     equal-describes θ e =
-        let r = equal-told true e in
+        let r = equal-reply true e in
         describes-equal (groups-of side t) (groups-of side u) θ (equal-test (r .0) .0 (rw (r .1) tt))
 
     -- Where they are said not to be, not all bindings are described by both or by neither.
@@ -156,7 +157,7 @@ module _ (side : Side) (t : Table) where
         → ¬ ((θ : Bindings) → Describes (groups-of side t) θ ↔ Describes (groups-of side u) θ)
     unfolding replies
     equal-no e f =
-        let r = equal-told false e in
+        let r = equal-reply false e in
         rw (r .1) at
         (equal-test (r .0) .1
         (same-described-equal (groups-of side t) (groups-of side u) (λ g h. groups-test side (t .l) (entries-of t) g .0 h .0 .1)
@@ -211,11 +212,11 @@ module _ (l : ℕ) (ws : List ℕ) (w : Table) (θ : Bindings) where
 
 -- A call whose written form reads back as its table has accepted with just the table that its output reads as.
 pub written-is : (a : Answered) (out : List ℕ) (w : Table)
-    → (put-answer a out ≡ Accepted → read-table Front (put-bytes a out) ≡ accepts (a .table)) → Writes a out w → a ≡ accepts w
+    → (output-answer a out ≡ Accepted → read-table Front (output-bytes a out) ≡ accepts (a .table)) → Writes a out w → a ≡ accepts w
 written-is a out w back h =
     let went = answer-is a out Accepted (h .zero) in
     let same : a .table ≡ w = ap (λ (y : Answered). y .table) (sym (back went) ∙ h .reads) in
-    λ i. record { answer = put-accepted a out went i; table = same i }
+    λ i. record { answer = output-accepted a out went i; table = same i }
 
 module _ (side : Side) (b : List ℕ) {t : Table} (read : Reads b t) (θ : Bindings) where
   -- The question on bytes: goals on sets that are said to be independent share no run-time variable.

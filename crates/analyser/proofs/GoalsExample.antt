@@ -22,16 +22,17 @@ use Rattle.model.proofs.Demand3.{describes-more}
 use Rattle.model.proofs.Example.{gives, gives-admitted, start, start-table, start-good, start-described}
 use Rattle.words.specs.Words.{set}
 use Rattle.tables.specs.declared.Answer.{Answer}
+use Rattle.tables.specs.Refusals.{if-accepted}
 use Rattle.tables.specs.Values.{check-table, table-of, accepts, made-or-full, good-width}
 use Rattle.tables.proofs.Values.{entries-of-table}
 use Rattle.tables.proofs.Checking.{good-passes}
 use Rattle.terms.specs.Checks as C
-use Rattle.lists.specs.Lists.{all-below}
-use Rattle.sharing.specs.Calls.{convert-call}
-use Rattle.sharing.specs.Outcomes.{groups-of}
+use Rattle.lists.specs.WorkingLists.{all-below}
+use Rattle.operations.specs.Operations.{convert-call}
+use Rattle.operations.specs.Outcomes.{groups-of}
 use Rattle.questions.specs.declared.Reply.{Reply}
-use Rattle.questions.specs.declared.Reply.the-variants.{Yes, No}
-use Rattle.questions.specs.Replies.{replies, after-check, good-sets, ground-call, independent-call}
+use Rattle.questions.specs.declared.Reply.the-variants.{Yes, No, Refused}
+use Rattle.questions.specs.Replies.{replies, good-sets, ground-call, independent-call}
 use Rattle.analyser.specs.Demand3.{Calls, end}
 use Rattle.words.proofs.Codec.{sets-long}
 use Rattle.analyser.proofs.Demand3.{calls-described}
@@ -134,13 +135,14 @@ last-described =
 -- ---- The questions
 
 -- the last table passes its check
-asked : (q : Reply) → after-check (check-table (three table-e)) q ≡ q
-unfolding after-check
-asked q = ap (λ (a : Answer). after-check a q) (good-passes (three table-e) (value-good positive three-wide (e-good .0)))
+asked : (q : Reply) → if-accepted (check-table (three table-e)) Refused q ≡ q
+unfolding if-accepted
+asked q =
+    ap (λ (a : Answer). if-accepted a Refused q) (good-passes (three table-e) (value-good positive three-wide (e-good .0)))
 
 -- X1 and X3 are independent.
 pub apart : independent-call positive (three table-e) 1 4 ≡ Yes
-unfolding procedures every every-group stands-for independent independent-call after-check good-sets replies set table-of
+unfolding procedures every every-group stands-for independent independent-call if-accepted good-sets replies set table-of
 apart =
     asked _
     ∙ ap (λ (τ : Entries). replies (independent positive 3 τ (set 3 1) (set 3 4))) (entries-of-table 3 table-e (e-good .0))
@@ -152,7 +154,7 @@ goals = independent-goals positive (three table-e) 1 4 last apart last-described
 
 -- X3 is ground.
 pub third-ground : ground-call positive (three table-e) 3 ≡ Yes
-unfolding procedures every every-group stands-for ground ground-call after-check replies table-of
+unfolding procedures every every-group stands-for ground ground-call if-accepted replies table-of
 third-ground =
     asked _
     ∙ ap (λ (τ : Entries). replies (ground positive 3 τ 3)) (entries-of-table 3 table-e (e-good .0))
@@ -163,7 +165,7 @@ third-goal = ground-goal positive (three table-e) 3 last third-ground last-descr
 
 -- X1 and X2 are not independent.
 pub not-apart : independent-call positive (three table-e) 1 2 ≡ No
-unfolding procedures every every-group stands-for independent independent-call after-check good-sets replies set table-of
+unfolding procedures every every-group stands-for independent independent-call if-accepted good-sets replies set table-of
 not-apart =
     asked _
     ∙ ap (λ (τ : Entries). replies (independent positive 3 τ (set 3 1) (set 3 2))) (entries-of-table 3 table-e (e-good .0))

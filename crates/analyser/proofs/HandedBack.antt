@@ -2,7 +2,7 @@
 -- and every byte of its output. Assumes nothing.
 use mathlib.Core.Path.{_≡_, refl, sym, ap, subst, _∙_}
 use mathlib.Core.Bool.{Bool, true, false}
-use mathlib.Core.List.{List, [], _∷_, _++_}
+use mathlib.Core.List.{List, _∷_, _++_}
 use mathlib.Core.Logic.{_⊎_, inl, inr, ⊎-elim}
 use Prim.Native.Nat.{ℕ, _<_}
 use native.Mathlib.Omega.{arith}
@@ -16,18 +16,18 @@ use Rattle.tables.specs.declared.Refusal.the-variants as R
 use Rattle.tables.specs.declared.Answer.{Answer}
 use Rattle.tables.specs.declared.Answer.the-variants.{Accepted, Refused}
 use Rattle.tables.specs.declared.Answered.{Answered}
-use Rattle.tables.specs.Refusals.{refusal-number, answer-number, member, one-of}
+use Rattle.tables.specs.Refusals.{refusal-number, answer-number, if-accepted, member, one-of}
 use Rattle.tables.proofs.Checking.{good-passes}
 use Rattle.tables.proofs.Numbers.{same-answer}
-use Rattle.sharing.specs.Outcomes.{Outcome, early, full, accepted, Exclusive}
-use Rattle.sharing.proofs.Demand2.{result}
-use Rattle.sharing.proofs.Exclusive.{Conditions, exclusive}
-use Rattle.forms.specs.Tables.{table-length, table-form, write-answer, written}
-use Rattle.forms.proofs.Back.{form-length}
+use Rattle.operations.specs.Outcomes.{Outcome, early, full, accepted, Exclusive}
+use Rattle.operations.proofs.Demand2.{result}
+use Rattle.operations.proofs.Exclusive.{Conditions, exclusive}
+use Rattle.forms.specs.TableForms.{table-length, table-form, write-answer, written}
+use Rattle.forms.proofs.ReadsBack.{form-length}
 use Rattle.forms.proofs.Outcomes.{write-narrow, write-fits}
-use Rattle.outputs.specs.Outputs.{put-checked, put-answer, put-number, put-bytes}
+use Rattle.byte_calls.specs.Outputs.{output-answer, output-number, output-bytes}
 use Rattle.analyser.specs.Demand2.{Fits, Wrote, HandedBack, Exported}
-use Rattle.analyser.proofs.ReadsBack.{MakesGood, put-accepted, put-reads, put-form}
+use Rattle.analyser.proofs.ReadsBack.{MakesGood, output-accepted, output-reads, output-form}
 
 -- an accepted answer is no refusal
 accepted-not : {r : Refusal} {P : Type 0} → Accepted ≡ Refused r → P
@@ -35,82 +35,82 @@ accepted-not e = absurd (let z : _≡_ {A = ℕ} 0 1 = cc in omega arith)
 
 module _ (a : Answered) (out : List ℕ) where
   -- The number is that of the answer, and says which it is.
-  pub number-is : {w : Answer} → put-answer a out ≡ w → put-number a out ≡ answer-number w
-  unfolding put-number
+  pub number-is : {w : Answer} → output-answer a out ≡ w → output-number a out ≡ answer-number w
+  unfolding output-number
   number-is e = ap answer-number e
 
-  pub answer-is : (w : Answer) → put-number a out ≡ answer-number w → put-answer a out ≡ w
-  unfolding put-number
-  answer-is w e = same-answer (put-answer a out) w e
+  pub answer-is : (w : Answer) → output-number a out ≡ answer-number w → output-answer a out ≡ w
+  unfolding output-number
+  answer-is w e = same-answer (output-answer a out) w e
 
   -- a refusal is handed on
-  put-refused : {r : Refusal} → a .answer ≡ Refused r → put-answer a out ≡ Refused r
-  unfolding put-answer put-checked
-  put-refused e = rw e
+  output-refused : {r : Refusal} → a .answer ≡ Refused r → output-answer a out ≡ Refused r
+  unfolding output-answer if-accepted
+  output-refused e = rw e
 
-  put-kept : {r : Refusal} → put-answer a out ≡ Refused r → put-bytes a out ≡ out
-  unfolding put-bytes written
-  put-kept e = rw e
+  output-kept : {r : Refusal} → output-answer a out ≡ Refused r → output-bytes a out ≡ out
+  unfolding output-bytes written if-accepted
+  output-kept e = rw e
 
   module _ (good : MakesGood a) where
     -- of an accepted call, by the room
     module _ (went : a .answer ≡ Accepted) where
-      put-is : put-answer a out ≡ write-answer (a .table) (length out)
-      unfolding put-answer put-checked
-      put-is = rw went
+      output-is : output-answer a out ≡ write-answer (a .table) (length out)
+      unfolding output-answer if-accepted
+      output-is = rw went
 
-      put-fits : Fits (a .table) out → put-answer a out ≡ Accepted
-      put-fits h = put-is ∙ sym (write-fits (a .table) out (good-passes (a .table) (good went .0)) h)
+      output-fits : Fits (a .table) out → output-answer a out ≡ Accepted
+      output-fits h = output-is ∙ sym (write-fits (a .table) out (good-passes (a .table) (good went .0)) h)
 
-      put-narrow : length out < table-length (a .table .n) → put-answer a out ≡ Refused R.Narrow
-      put-narrow h = put-is ∙ sym (write-narrow (a .table) out (good-passes (a .table) (good went .0)) h .0)
+      output-narrow : length out < table-length (a .table .n) → output-answer a out ≡ Refused R.Narrow
+      output-narrow h = output-is ∙ sym (write-narrow (a .table) out (good-passes (a .table) (good went .0)) h .0)
 
-      fits-where : put-answer a out ≡ Accepted → Fits (a .table) out
+      fits-where : output-answer a out ≡ Accepted → Fits (a .table) out
       fits-where e = go (leb (table-length (a .table .n)) (length out)) refl
         where
           go : (b : Bool) → leb (table-length (a .table .n)) (length out) ≡ b → Fits (a .table) out
           go true h = leb-true (table-length (a .table .n)) (length out) h
-          go false h = accepted-not (sym e ∙ put-narrow (leb-false (table-length (a .table .n)) (length out) h))
+          go false h = accepted-not (sym e ∙ output-narrow (leb-false (table-length (a .table .n)) (length out) h))
 
-      narrow-where : put-answer a out ≡ Refused R.Narrow → ¬ (Fits (a .table) out)
-      narrow-where e h = accepted-not (sym (put-fits h) ∙ e)
+      narrow-where : output-answer a out ≡ Refused R.Narrow → ¬ (Fits (a .table) out)
+      narrow-where e h = accepted-not (sym (output-fits h) ∙ e)
 
-      narrow-of : ¬ (Fits (a .table) out) → put-answer a out ≡ Refused R.Narrow
+      narrow-of : ¬ (Fits (a .table) out) → output-answer a out ≡ Refused R.Narrow
       narrow-of n = go (leb (table-length (a .table .n)) (length out)) refl
         where
-          go : (b : Bool) → leb (table-length (a .table .n)) (length out) ≡ b → put-answer a out ≡ Refused R.Narrow
+          go : (b : Bool) → leb (table-length (a .table .n)) (length out) ≡ b → output-answer a out ≡ Refused R.Narrow
           go true h = absurd (n (leb-true (table-length (a .table .n)) (length out) h))
-          go false h = put-narrow (leb-false (table-length (a .table .n)) (length out) h)
+          go false h = output-narrow (leb-false (table-length (a .table .n)) (length out) h)
 
-    put-wrote : put-answer a out ≡ Accepted → Wrote (a .table) out (put-bytes a out)
-    unfolding put-bytes written
-    put-wrote e =
-        let g = good (put-accepted a out e) in
+    output-wrote : output-answer a out ≡ Accepted → Wrote (a .table) out (output-bytes a out)
+    unfolding output-bytes written if-accepted
+    output-wrote e =
+        let g = good (output-accepted a out e) in
         let form = table-form (a .table) in
-        let reads = put-reads a out (g .0) (g .1) e in
+        let reads = output-reads a out (g .0) (g .1) e in
         record {
           bytes = rw e (ap (λ (k : ℕ). form ++ drop k out) (form-length (a .table) (g .0)));
           reads = reads;
-          alone = put-form a out e reads;
+          alone = output-form a out e reads;
         }
 
-    unwritten-at : ¬ (put-number a out ≡ 0) → put-bytes a out ≡ out
-    unwritten-at n = go (put-answer a out) refl
+    unwritten-at : ¬ (output-number a out ≡ 0) → output-bytes a out ≡ out
+    unwritten-at n = go (output-answer a out) refl
       where
-        go : (w : Answer) → put-answer a out ≡ w → put-bytes a out ≡ out
+        go : (w : Answer) → output-answer a out ≡ w → output-bytes a out ≡ out
         go Accepted e = absurd (n (number-is e))
-        go (Refused r) e = put-kept e
+        go (Refused r) e = output-kept e
 
     -- The law of handing back.
     pub handed-back : HandedBack a out
     handed-back = record {
-      zero-where = λ went. (λ e. fits-where went (answer-is Accepted e), λ h. number-is (put-fits went h));
+      zero-where = λ went. (λ e. fits-where went (answer-is Accepted e), λ h. number-is (output-fits went h));
       nine-where = λ went. (
         λ e. narrow-where went (answer-is (Refused R.Narrow) e),
         λ h. number-is (narrow-of went h),
       );
-      refused = λ r e. number-is (put-refused e);
-      wrote = λ e. put-wrote (answer-is Accepted e);
+      refused = λ r e. number-is (output-refused e);
+      wrote = λ e. output-wrote (answer-is Accepted e);
       unwritten = unwritten-at;
     }
 
@@ -121,26 +121,26 @@ narrow-not-full e = absurd (let z : _≡_ {A = ℕ} 0 1 = cc in omega arith)
 
 module _ (a : Answered) (good : MakesGood a) (out : List ℕ) where
   -- an accepted call is 0 or 9
-  accepted-number : a .answer ≡ Accepted → (put-answer a out ≡ Accepted) ⊎ (put-answer a out ≡ Refused R.Narrow)
+  accepted-number : a .answer ≡ Accepted → (output-answer a out ≡ Accepted) ⊎ (output-answer a out ≡ Refused R.Narrow)
   accepted-number went = go (leb (table-length (a .table .n)) (length out)) refl
     where
       go : (b : Bool) → leb (table-length (a .table .n)) (length out) ≡ b
-          → (put-answer a out ≡ Accepted) ⊎ (put-answer a out ≡ Refused R.Narrow)
-      go true h = inl (put-fits a out good went (leb-true (table-length (a .table .n)) (length out) h))
-      go false h = inr (put-narrow a out good went (leb-false (table-length (a .table .n)) (length out) h))
+          → (output-answer a out ≡ Accepted) ⊎ (output-answer a out ≡ Refused R.Narrow)
+      go true h = inl (output-fits a out good went (leb-true (table-length (a .table .n)) (length out) h))
+      go false h = inr (output-narrow a out good went (leb-false (table-length (a .table .n)) (length out) h))
 
   -- any other number is the call's own
-  own : (r : Refusal) → ¬ (r ≡ R.Narrow) → put-number a out ≡ refusal-number r → a .answer ≡ Refused r
+  own : (r : Refusal) → ¬ (r ≡ R.Narrow) → output-number a out ≡ refusal-number r → a .answer ≡ Refused r
   own r other e = go (a .answer) refl
     where
-      here : put-answer a out ≡ Refused r
+      here : output-answer a out ≡ Refused r
       here = answer-is a out (Refused r) e
 
       go : (w : Answer) → a .answer ≡ w → a .answer ≡ Refused r
       go Accepted h =
           ⊎-elim (λ k. accepted-not (sym k ∙ here))
           (λ k. absurd (other (let is : r ≡ R.Narrow = (let d = sym here ∙ k in cc) in is))) (accepted-number h)
-      go (Refused s) h = h ∙ sym (put-refused a out h) ∙ here
+      go (Refused s) h = h ∙ sym (output-refused a out h) ∙ here
 
 -- a refusal of a list of numbers is none that is not in it
 apart-from : (ns : List ℕ) (x : Refusal) → one-of ns x ≡ false → {r : Refusal} → T (one-of ns r) → ¬ (r ≡ x)
@@ -151,16 +151,16 @@ module _ {t : Table} {Early : Refusal → Type 0} {Ready : Type 0} {Full : Ready
     (same : (p q : Ready) → Full p → Full q) where
   -- the numbers that can be returned
   listed : {a : Answered} → Outcome t Early Ready Full Result a → MakesGood a → (out : List ℕ)
-      → T (member (put-number a out) (0 ∷ 8 ∷ 9 ∷ ns))
+      → T (member (output-number a out) (0 ∷ 8 ∷ 9 ∷ ns))
   unfolding one-of member
   listed {a} (early {r} h) good out =
-      let n = put-number a out in
+      let n = output-number a out in
       or-right (eqb n 0) _ (or-right (eqb n 8) _ (or-right (eqb n 9) _
-      (subst (λ (k : ℕ). T (member k ns)) (sym (number-is a out (put-refused a out refl))) (conditions .numbers r h))))
+      (subst (λ (k : ℕ). T (member k ns)) (sym (number-is a out (output-refused a out refl))) (conditions .numbers r h))))
   listed {a} (full ready f) good out =
-      let n : put-number a out ≡ 8 = number-is a out (put-refused a out refl) in rw n tt
+      let n : output-number a out ≡ 8 = number-is a out (output-refused a out refl) in rw n tt
   listed {a} (accepted ready n h) good out =
-      let at : (k : ℕ) → T (member k (0 ∷ 8 ∷ 9 ∷ ns)) → put-number a out ≡ k → T (member (put-number a out) (0 ∷ 8 ∷ 9 ∷ ns)) =
+      let at : (k : ℕ) → T (member k (0 ∷ 8 ∷ 9 ∷ ns)) → output-number a out ≡ k → T (member (output-number a out) (0 ∷ 8 ∷ 9 ∷ ns)) =
       λ k h e. rw e h in
       ⊎-elim (λ k. at 0 tt (number-is a out k)) (λ k. at 9 tt (number-is a out k)) (accepted-number a good out refl)
 
@@ -170,7 +170,7 @@ module _ {t : Table} {Early : Refusal → Type 0} {Ready : Type 0} {Full : Ready
   exported {a} outcome good out = record {
     zero-where = (
       λ e.
-          let went = put-accepted a out (answer-is a out Accepted e) in
+          let went = output-accepted a out (answer-is a out Accepted e) in
           let h = only .accepted-where .0 went in
           (h .0, h .1, back .zero-where went .0 e),
       λ h. back .zero-where (only .accepted-where .1 (h .0, h .1)) .1 (h .2),
@@ -186,7 +186,7 @@ module _ {t : Table} {Early : Refusal → Type 0} {Ready : Type 0} {Full : Ready
     );
     no-other = listed outcome good out;
     result = λ e.
-        let m = result outcome (put-accepted a out (answer-is a out Accepted e)) in
+        let m = result outcome (output-accepted a out (answer-is a out Accepted e)) in
         (m .0, m .1, back .wrote e);
     unwritten = back .unwritten;
   }
@@ -197,10 +197,10 @@ module _ {t : Table} {Early : Refusal → Type 0} {Ready : Type 0} {Full : Ready
       back : HandedBack a out
       back = handed-back a out good
 
-      nine : (w : Answer) → a .answer ≡ w → put-number a out ≡ 9
+      nine : (w : Answer) → a .answer ≡ w → output-number a out ≡ 9
           → (ready : Ready) × ¬ (Full ready) × ¬ (Fits (a .table) out)
       nine Accepted h e = let k = only .accepted-where .0 h in (k .0, k .1, back .nine-where h .0 e)
       nine (Refused s) h e =
-          let is = sym (put-refused a out h) ∙ answer-is a out (Refused R.Narrow) e in
+          let is = sym (output-refused a out h) ∙ answer-is a out (Refused R.Narrow) e in
           let k = only .refused-where R.Narrow narrow-not-full .0 (h ∙ is) in
           absurd (apart-from ns R.Narrow no-9 (conditions .numbers R.Narrow k) refl)

@@ -1,10 +1,10 @@
-pub mod Handing
+pub mod SameOutput
 pub mod Equations
 pub mod ByBytes
 pub mod ReadsBack
 pub mod HandedBack
 pub mod Demand2
-pub mod Asked
+pub mod Questions
 pub mod Demand3
 pub mod Ends
 pub mod GoodStates

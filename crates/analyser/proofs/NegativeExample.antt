@@ -14,7 +14,7 @@ use Rattle.model.proofs.Demand2.{change-exact, change-good}
 use Rattle.model.proofs.Demand3.{describes-more}
 use Rattle.model.proofs.Example.{start, start-table, start-described, end, end-table}
 use Rattle.tables.specs.Values.{GoodTable}
-use Rattle.sharing.specs.Outcomes.{groups-of}
+use Rattle.operations.specs.Outcomes.{groups-of}
 use Rattle.analyser.proofs.Example.{three, Tables, calls-end}
 
 -- The negative table 11* 1*1 *11.

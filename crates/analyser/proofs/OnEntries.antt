@@ -21,29 +21,30 @@ use Rattle.tables.specs.declared.Refusal.the-variants as R
 use Rattle.tables.specs.declared.Answer.{Answer}
 use Rattle.tables.specs.declared.Answer.the-variants.{Accepted}
 use Rattle.tables.specs.declared.Answered.{Answered}
-use Rattle.tables.specs.Refusals.{refusal-number}
+use Rattle.tables.specs.Refusals.{refusal-number, if-accepted}
 use Rattle.tables.specs.Lists.{pairs, strings}
 use Rattle.tables.specs.Values.{table-of, accepts, refuses, made-or-full, good-width, clean, all-from, all-clean, GoodTable}
 use Rattle.tables.proofs.Values.{entries-of-table, table-of-good}
 use Rattle.tables.proofs.Checking.{good-passes}
 use Rattle.terms.specs.Checks as C
-use Rattle.sharing.specs.Calls.{side-told, equation-call}
-use Rattle.sharing.specs.Outcomes.{groups-of}
+use Rattle.operations.specs.Operations.{side-numbered, equation-call}
+use Rattle.operations.specs.Outcomes.{groups-of}
 use Rattle.codec.specs.Numbers.{numbers, sum}
 use Rattle.forms.specs.declared.Extent.the-variants.{Front}
-use Rattle.forms.specs.Tables.{sized, table-length, fits, written-entries, read-entries, read-sized, read-table, table-form}
-use Rattle.forms.specs.Equations.{Written, share-out, equations-of, after-equation, check-each, check-sized, check-equations}
-use Rattle.forms.proofs.Back.{written-reads}
+use Rattle.forms.specs.TableForms.{sized, table-length, fits, written-entries, read-entries, read-sized, read-table, table-form}
+use Rattle.forms.specs.EquationForms.{Written, share-out, equations-of, check-each, check-sized, check-equations}
+use Rattle.forms.proofs.ReadsBack.{written-reads}
 use Rattle.forms.proofs.Outcomes.{write-fits}
-use Rattle.byte_calls.specs.Calls.{check-bytes, tokens-of, term-call, equation-bytes}
-use Rattle.outputs.specs.Outputs.{put-checked, put-answer, put-bytes}
+use Rattle.byte_calls.specs.ByteCalls.{check-bytes, tokens-of, term-call, equation-bytes}
+use Rattle.byte_calls.specs.Outputs.{output-answer, output-bytes}
 use Rattle.running.specs.declared.Running.{Running}
-use Rattle.running.specs.States.{state, after-answer, advanced, go-on, run-from}
+use Rattle.running.specs.States.{state, after-answer, advanced, run-from}
 use Rattle.analyser.specs.Demand3.{term-read, equation-given, event-of, Returns, written, Calls, value, bytes}
 use Rattle.analyser.specs.Demand3.{Step, steps, step-events}
 use Rattle.analyser.proofs.Equations.{read-whole, called, uncalled}
 use Rattle.analyser.specs.Demand2.{Reads}
-use Rattle.analyser.proofs.ByBytes.{equation-by-bytes, term-passed}
+use Rattle.byte_calls.proofs.AfterChecks.{term-passed}
+use Rattle.analyser.proofs.ByBytes.{equation-by-bytes}
 use Rattle.analyser.proofs.ReadsBack.{equation-reads}
 
 -- ---- Names for an `unfolding` line
@@ -60,7 +61,7 @@ term-checks = tt
 
 -- The checks of the form of equations, which share out its tokens.
 unfoldable pub equations-read : Unit {0}
-unfolding term-checks sized sum share-out equations-of after-equation check-each check-sized check-equations
+unfolding term-checks sized sum share-out equations-of C.if-read check-each check-sized check-equations
 equations-read = tt
 
 -- the entries of a table in bytes
@@ -168,14 +169,14 @@ module _ (side : Side) {l : ℕ} (width : good-width l ≡ true) {τ : Entries} 
           ∙ term-passed side (table-of l τ) x term passes
           ∙ value-accepted side width good x (tokens-of term) reads makes
 
-      wrote : put-answer (equation-bytes side form x term) out ≡ Accepted
-      unfolding put-answer put-checked table-of
+      wrote : output-answer (equation-bytes side form x term) out ≡ Accepted
+      unfolding output-answer if-accepted table-of
       wrote =
           let made = equation-good side l (equated x u) τ ρ good makes .0 in
-          ap (λ (a : Answered). put-answer a out) bytes-is
+          ap (λ (a : Answered). output-answer a out) bytes-is
           ∙ sym (write-fits (table-of l ρ) out (good-passes (table-of l ρ) (value-good side width made)) room)
 
-      back : read-table Front (put-bytes (equation-bytes side form x term) out) ≡ accepts (table-of l ρ)
+      back : read-table Front (output-bytes (equation-bytes side form x term) out) ≡ accepts (table-of l ρ)
       back = equation-reads side form x term out wrote ∙ ap (λ (a : Answered). accepts (a .table)) bytes-is
 
       -- An accepted call on byte buffers, before other calls.
@@ -183,7 +184,7 @@ module _ (side : Side) {l : ℕ} (width : good-width l ≡ true) {τ : Entries} 
           → Calls side (table-of l τ) (accepted (equated x u) ∷ es) v
       unfolding event-of table-of
       bytes-accepted {es} {v} rest =
-          let now = put-bytes (equation-bytes side form x term) out in
+          let now = output-bytes (equation-bytes side form x term) out in
           subst (λ (e : Equation). Calls side (table-of l τ) (accepted e ∷ es) v) (given-is l x (tokens-of term) u reads)
           (subst (λ (y : Answer). Calls side (table-of l τ) (event-of y (equation-given l x (tokens-of term)) ∷ es) v) wrote
           (bytes form (table-of l τ) x term out form-reads
@@ -193,7 +194,7 @@ module _ (side : Side) {l : ℕ} (width : good-width l ≡ true) {τ : Entries} 
 
 -- A state of that side and that table.
 pub record HasTable (side : Side) (t : Table) (s : Running) : Type 0 where
-  pub on : side-told (s .side) ≡ side
+  pub on : side-numbered (s .side) ≡ side
   pub at : s .table ≡ t
 
 -- What steps from a state feed the model, and the table that they leave.
@@ -209,7 +210,7 @@ steps-end at = record { fed = refl; left = at .at }
 module _ (side : Side) (t : Table) (c : Step) {s : Running} (at : HasTable side t s) {a : Answered}
     (is : term-call side t (c .variable) (c .term) ≡ a) where
   -- what the state answers
-  answered : term-call (side-told (s .side)) (s .table) (c .variable) (c .term) ≡ a
+  answered : term-call (side-numbered (s .side)) (s .table) (c .variable) (c .term) ≡ a
   answered =
       ap (λ (d : Side). term-call d (s .table) (c .variable) (c .term)) (at .on)
       ∙ ap (λ (u : Table). term-call side u (c .variable) (c .term)) (at .at)
@@ -233,11 +234,11 @@ pub step-refused : (side : Side) (t : Table) (c : Step) {s : Running} → HasTab
     → term-call side t (c .variable) (c .term) ≡ refuses r t
     → {cs : List Step} {es : List Event} {v : Table} → ((s′ : Running) → HasTable side t s′ → StepsGive s′ cs es v)
     → StepsGive s (c ∷ cs) (refused ∷ es) v
-unfolding event-of advanced after-answer go-on
+unfolding event-of advanced after-answer if-accepted
 step-refused side t c {s} at {r} is rest =
     let kept = answered side t c at is ∙ ap (refuses r) (sym (at .at)) in
     fed-first side t c at is refl (rest (advanced s (c .variable) (c .term)) (record {
-      on = ap (λ (y : Answered). side-told (after-answer s y .side)) kept ∙ at .on;
+      on = ap (λ (y : Answered). side-numbered (after-answer s y .side)) kept ∙ at .on;
       at = ap (λ (y : Answered). after-answer s y .table) kept ∙ at .at;
     }))
 
@@ -248,14 +249,14 @@ pub step-accepted : (side : Side) {l : ℕ} → good-width l ≡ true → {τ : 
     → {ρ : Entries} → equation side l (equated (c .variable) u) τ ≡ some ρ
     → {cs : List Step} {es : List Event} {v : Table} → ((s′ : Running) → HasTable side (table-of l ρ) s′ → StepsGive s′ cs es v)
     → StepsGive s (c ∷ cs) (accepted (equated (c .variable) u) ∷ es) v
-unfolding event-of advanced after-answer go-on table-of
+unfolding event-of advanced after-answer if-accepted table-of
 step-accepted side {l} width {τ} good c {s} at passes {u} reads makes rest =
     let is = term-passed side (table-of l τ) (c .variable) (c .term) passes
     ∙ value-accepted side width good (c .variable) (tokens-of (c .term)) reads makes in
     let made = answered side (table-of l τ) c at is in
     fed-first side (table-of l τ) c at is (given-is l (c .variable) (tokens-of (c .term)) u reads)
     (rest (advanced s (c .variable) (c .term)) (record {
-      on = ap (λ (y : Answered). side-told (after-answer s y .side)) made ∙ at .on;
+      on = ap (λ (y : Answered). side-numbered (after-answer s y .side)) made ∙ at .on;
       at = ap (λ (y : Answered). after-answer s y .table) made;
     }))
 
@@ -263,13 +264,13 @@ step-accepted side {l} width {τ} good c {s} at passes {u} reads makes rest =
 
 module _ (side : ℕ) (t : Table) (k : ℕ) (w : Written) (ws : List Written) where
   -- An accepted equation of a run: it goes on from the table made.
-  pub run-accepted : {u : Table} → equation-call (side-told side) t (w .left) (w .tokens) ≡ accepts u
+  pub run-accepted : {u : Table} → equation-call (side-numbered side) t (w .left) (w .tokens) ≡ accepts u
       → run-from side t k (w ∷ ws) ≡ run-from side u (k + 1) ws
-  unfolding run-from go-on
+  unfolding run-from if-accepted
   run-accepted e = rw e
 
   -- A refused equation of a run: it ends, with the table and the number before it.
-  pub run-stopped : {r : Refusal} → equation-call (side-told side) t (w .left) (w .tokens) ≡ refuses r t
+  pub run-stopped : {r : Refusal} → equation-call (side-numbered side) t (w .left) (w .tokens) ≡ refuses r t
       → run-from side t k (w ∷ ws) ≡ state (refusal-number r) side k t
-  unfolding run-from go-on
+  unfolding run-from if-accepted
   run-stopped e = rw e

@@ -20,21 +20,22 @@ use Rattle.tables.specs.declared.Refusal.{Refusal}
 use Rattle.tables.specs.declared.Answer.{Answer}
 use Rattle.tables.specs.declared.Answer.the-variants.{Accepted, Refused}
 use Rattle.tables.specs.declared.Answered.{Answered}
+use Rattle.tables.specs.Refusals.{if-accepted}
 use Rattle.tables.specs.Values.{entries-of, accepts, refuses, made-or-full, good-width, check-table, GoodTable}
 use Rattle.tables.specs.Values.{zero-table}
-use Rattle.lists.specs.Lists.{all-below}
-use Rattle.sharing.specs.Calls.{convert-call}
+use Rattle.lists.specs.WorkingLists.{all-below}
+use Rattle.operations.specs.Operations.{convert-call}
 use Rattle.tables.proofs.Values.{entries-of-table, table-of-good}
 use Rattle.tables.proofs.Tests.{both-true}
-use Rattle.sharing.specs.Calls.{after-check, good-keep, projected, join-call, projection-call, change-side-call}
-use Rattle.sharing.proofs.Demand2.{kept-width}
+use Rattle.operations.specs.Operations.{good-keep, projected, join-call, projection-call, change-side-call}
+use Rattle.operations.proofs.Demand2.{kept-width}
 use Rattle.forms.specs.declared.Extent.the-variants.{Whole, Front}
-use Rattle.forms.specs.Tables.{table-length, read-table, table-form, write-answer, written}
+use Rattle.forms.specs.TableForms.{table-length, read-table, table-form, write-answer, written}
 use Rattle.forms.proofs.Reading.{read-good}
-use Rattle.forms.proofs.Back.{form-length, written-reads, written-front}
-use Rattle.byte_calls.specs.Calls.{tokens-of, term-call, after-read, change-side-bytes, equation-bytes, join-bytes}
-use Rattle.byte_calls.specs.Calls.{projection-bytes}
-use Rattle.outputs.specs.Outputs.{put-checked, put-answer, put-bytes}
+use Rattle.forms.proofs.ReadsBack.{form-length, written-reads, written-front}
+use Rattle.byte_calls.specs.ByteCalls.{tokens-of, term-call, refuses-zero, after-read, change-side-bytes, equation-bytes}
+use Rattle.byte_calls.specs.ByteCalls.{join-bytes, projection-bytes}
+use Rattle.byte_calls.specs.Outputs.{output-answer, output-bytes}
 use Rattle.analyser.proofs.Equations.{accepted-exact}
 use Rattle.analyser.specs.Demand2.{Reads}
 use Rattle.analyser.proofs.ByBytes.{term-accepted}
@@ -43,27 +44,28 @@ use Rattle.analyser.proofs.ByBytes.{term-accepted}
 
 module _ (a : Answered) (out : List ℕ) where
   -- A call that has written its table was accepted.
-  pub put-accepted : put-answer a out ≡ Accepted → a .answer ≡ Accepted
-  unfolding put-answer put-checked
-  put-accepted e = go (a .answer) refl e
+  pub output-accepted : output-answer a out ≡ Accepted → a .answer ≡ Accepted
+  unfolding output-answer if-accepted
+  output-accepted e = go (a .answer) refl e
     where
-      go : (y : Answer) → a .answer ≡ y → put-checked y (write-answer (a .table) (length out)) ≡ Accepted → a .answer ≡ Accepted
+      go : (y : Answer) → a .answer ≡ y → if-accepted y Refused (write-answer (a .table) (length out)) ≡ Accepted
+          → a .answer ≡ Accepted
       go Accepted h q = h
       go (Refused r) h q = absurd (let z : _≡_ {A = ℕ} 0 1 = cc in omega arith)
 
   -- Where a good and reduced table was written, the bytes of the output begin with a form that reads as it.
-  pub put-reads : GoodTable (a .table) → Reduced (entries-of (a .table)) → put-answer a out ≡ Accepted
-      → read-table Front (put-bytes a out) ≡ accepts (a .table)
-  unfolding put-bytes
-  put-reads good reduced e = rw e (written-front (a .table) out good reduced)
+  pub output-reads : GoodTable (a .table) → Reduced (entries-of (a .table)) → output-answer a out ≡ Accepted
+      → read-table Front (output-bytes a out) ≡ accepts (a .table)
+  unfolding output-bytes
+  output-reads good reduced e = rw e (written-front (a .table) out good reduced)
 
   -- Where the written form reads as the table, so does that form alone, cut at the length that the table's count gives: the next
   -- call can get it. Each law below gives what this one wants.
-  pub put-form : put-answer a out ≡ Accepted → read-table Front (put-bytes a out) ≡ accepts (a .table)
-      → read-table Whole (take (table-length (a .table .n)) (put-bytes a out)) ≡ accepts (a .table)
-  unfolding put-bytes written
-  put-form e reads =
-      let g = read-good Front (put-bytes a out) (a .table) reads in
+  pub output-form : output-answer a out ≡ Accepted → read-table Front (output-bytes a out) ≡ accepts (a .table)
+      → read-table Whole (take (table-length (a .table .n)) (output-bytes a out)) ≡ accepts (a .table)
+  unfolding output-bytes written if-accepted
+  output-form e reads =
+      let g = read-good Front (output-bytes a out) (a .table) reads in
       let form = table-form (a .table) in
       let cut : take (table-length (a .table .n)) (form ++ drop (length form) out) ≡ form =
       take-at form (drop (length form) out) (table-length (a .table .n)) (form-length (a .table) (g .0)) in
@@ -74,9 +76,9 @@ abbrev pub MakesGood : Answered → Type 0
 MakesGood a = a .answer ≡ Accepted → GoodTable (a .table) × Reduced (entries-of (a .table))
 
 -- The form that such a call has written reads as its table.
-pub made-reads : (a : Answered) → MakesGood a → (out : List ℕ) → put-answer a out ≡ Accepted
-    → read-table Front (put-bytes a out) ≡ accepts (a .table)
-made-reads a made out e = let g = made (put-accepted a out e) in put-reads a out (g .0) (g .1) e
+pub made-reads : (a : Answered) → MakesGood a → (out : List ℕ) → output-answer a out ≡ Accepted
+    → read-table Front (output-bytes a out) ≡ accepts (a .table)
+made-reads a made out e = let g = made (output-accepted a out e) in output-reads a out (g .0) (g .1) e
 
 -- ---- The parts of a call
 
@@ -92,8 +94,8 @@ list-good l t (some ρ) w f e =
     (table-of-good l ρ w (g .0), rw (entries-of-table l ρ (g .0)) (g .1))
 list-good l t none w f e = refused-good _ t e
 
-check-good : (c : Answer) (t : Table) (a : Answered) → MakesGood a → MakesGood (after-check c t a)
-unfolding after-check
+check-good : (c : Answer) (t : Table) (a : Answered) → MakesGood a → MakesGood (if-accepted c (λ r. refuses r t) a)
+unfolding if-accepted
 check-good Accepted t a f = f
 check-good (Refused r) t a f = refused-good r t
 
@@ -102,14 +104,15 @@ test-good true a b f g = f refl
 test-good false a b f g = g
 
 -- a table that was read
-read-makes : (b : List ℕ) (go : Table → Answered) → ((t : Table) → Reads b t → MakesGood (go t)) → MakesGood (after-read b go)
-unfolding after-read after-check
+read-makes : (b : List ℕ) (go : Table → Answered) → ((t : Table) → Reads b t → MakesGood (go t))
+    → MakesGood (after-read b refuses-zero go)
+unfolding after-read if-accepted
 read-makes b go f = by (read-table Whole b) refl
   where
-    by : (a : Answered) → read-table Whole b ≡ a → MakesGood (after-check (a .answer) zero-table (go (a .table)))
+    by : (a : Answered) → read-table Whole b ≡ a → MakesGood (if-accepted (a .answer) refuses-zero (go (a .table)))
     by a e = part (a .answer) refl
       where
-        part : (y : Answer) → a .answer ≡ y → MakesGood (after-check y zero-table (go (a .table)))
+        part : (y : Answer) → a .answer ≡ y → MakesGood (if-accepted y refuses-zero (go (a .table)))
         part Accepted h = f (a .table) (e ∙ (λ i. record { answer = h i; table = a .table }))
         part (Refused r) h = refused-good r zero-table
 
@@ -126,8 +129,8 @@ module _ (b : List ℕ) where
   read-made e = read-good Whole b (read-table Whole b .table) (λ i. record { answer = e i; table = read-table Whole b .table })
 
   -- What an accepted read has written reads as its table.
-  pub read-reads : (out : List ℕ) → put-answer (read-table Whole b) out ≡ Accepted
-      → read-table Front (put-bytes (read-table Whole b) out) ≡ accepts (read-table Whole b .table)
+  pub read-reads : (out : List ℕ) → output-answer (read-table Whole b) out ≡ Accepted
+      → read-table Front (output-bytes (read-table Whole b) out) ≡ accepts (read-table Whole b .table)
   read-reads = made-reads (read-table Whole b) read-made
 
 -- ---- Convert
@@ -144,8 +147,8 @@ module _ (l : ℕ) (ws : List ℕ) where
       (refused-good _ zero-table)
 
   -- What an accepted conversion of groups has written reads as its table.
-  pub convert-reads : (out : List ℕ) → put-answer (convert-call l ws) out ≡ Accepted
-      → read-table Front (put-bytes (convert-call l ws) out) ≡ accepts (convert-call l ws .table)
+  pub convert-reads : (out : List ℕ) → output-answer (convert-call l ws) out ≡ Accepted
+      → read-table Front (output-bytes (convert-call l ws) out) ≡ accepts (convert-call l ws .table)
   convert-reads = made-reads (convert-call l ws) convert-made
 
 -- ---- Change of side
@@ -164,8 +167,8 @@ module _ (side : Side) (b : List ℕ) where
       ))))
 
   -- What an accepted change of side has written reads as its table.
-  pub change-side-reads : (out : List ℕ) → put-answer (change-side-bytes side b) out ≡ Accepted
-      → read-table Front (put-bytes (change-side-bytes side b) out) ≡ accepts (change-side-bytes side b .table)
+  pub change-side-reads : (out : List ℕ) → output-answer (change-side-bytes side b) out ≡ Accepted
+      → read-table Front (output-bytes (change-side-bytes side b) out) ≡ accepts (change-side-bytes side b .table)
   change-side-reads = made-reads (change-side-bytes side b) change-side-made
 
 -- ---- Equation
@@ -184,8 +187,8 @@ module _ (side : Side) (b : List ℕ) (x : ℕ) (term : List ℕ) where
   equation-made = read-makes b (λ t. term-call side t x term) (λ t e. term-made side t x term (read-good Whole b t e .0))
 
   -- What an accepted equation has written reads as its table.
-  pub equation-reads : (out : List ℕ) → put-answer (equation-bytes side b x term) out ≡ Accepted
-      → read-table Front (put-bytes (equation-bytes side b x term) out) ≡ accepts (equation-bytes side b x term .table)
+  pub equation-reads : (out : List ℕ) → output-answer (equation-bytes side b x term) out ≡ Accepted
+      → read-table Front (output-bytes (equation-bytes side b x term) out) ≡ accepts (equation-bytes side b x term .table)
   equation-reads = made-reads (equation-bytes side b x term) equation-made
 
 -- ---- Join
@@ -195,7 +198,7 @@ module _ (side : Side) (b c : List ℕ) where
   pub join-made : MakesGood (join-bytes side b c)
   unfolding join-bytes join-call
   join-made =
-      read-makes b (λ t. after-read c (join-call side t)) (λ t e. read-makes c (join-call side t) (λ u f.
+      read-makes b (λ t. after-read c refuses-zero (join-call side t)) (λ t e. read-makes c (join-call side t) (λ u f.
       let first = read-good Whole b t e in
       let second = read-good Whole c u f .0 in
       check-good (check-table t) t _ (check-good (check-table u) t _
@@ -210,8 +213,8 @@ module _ (side : Side) (b c : List ℕ) where
       (refused-good _ t)))))
 
   -- What an accepted join has written reads as its table.
-  pub join-reads : (out : List ℕ) → put-answer (join-bytes side b c) out ≡ Accepted
-      → read-table Front (put-bytes (join-bytes side b c) out) ≡ accepts (join-bytes side b c .table)
+  pub join-reads : (out : List ℕ) → output-answer (join-bytes side b c) out ≡ Accepted
+      → read-table Front (output-bytes (join-bytes side b c) out) ≡ accepts (join-bytes side b c .table)
   join-reads = made-reads (join-bytes side b c) join-made
 
 -- ---- Projection
@@ -236,6 +239,6 @@ module _ (side : Side) (b : List ℕ) (keep : ℕ) where
       (refused-good _ t)))
 
   -- What an accepted projection has written reads as its table.
-  pub projection-reads : (out : List ℕ) → put-answer (projection-bytes side b keep) out ≡ Accepted
-      → read-table Front (put-bytes (projection-bytes side b keep) out) ≡ accepts (projection-bytes side b keep .table)
+  pub projection-reads : (out : List ℕ) → output-answer (projection-bytes side b keep) out ≡ Accepted
+      → read-table Front (output-bytes (projection-bytes side b keep) out) ≡ accepts (projection-bytes side b keep .table)
   projection-reads = made-reads (projection-bytes side b keep) projection-made

@@ -26,12 +26,12 @@ use Rattle.tables.specs.declared.Refusal.the-variants as R
 use Rattle.tables.specs.declared.Answer.the-variants.{Accepted, Refused}
 use Rattle.tables.specs.Values.{table-of, good-width, zero-table, GoodTable}
 use Rattle.terms.specs.Checks as C
-use Rattle.sharing.specs.Calls.{side-told}
-use Rattle.sharing.specs.Outcomes.{groups-of}
-use Rattle.forms.specs.Tables.{first-size, second-size}
-use Rattle.forms.specs.Equations.{Written, equations-of, check-equations}
+use Rattle.operations.specs.Operations.{side-numbered}
+use Rattle.operations.specs.Outcomes.{groups-of}
+use Rattle.forms.specs.TableForms.{first-size, second-size}
+use Rattle.forms.specs.EquationForms.{Written, equations-of, check-equations}
 use Rattle.running.specs.States.{state, run-state, run-from}
-use Rattle.running.proofs.Steps.{run-goes}
+use Rattle.running.proofs.Beginning.{run-goes}
 use Rattle.analyser.specs.Demand3.{term-read, Calls, run-events}
 use Rattle.analyser.specs.Demand3 as S
 use Rattle.analyser.specs.Demand2.{Reads, Unread}
@@ -126,7 +126,7 @@ second-full = refl
 
 -- The run ends with the number 8, one equation applied and the table before the full one.
 pub full-run : run-state 0 table-bytes equations-bytes ≡ state 8 0 1 (table-of 11 before-full)
-unfolding side-told table-of
+unfolding side-numbered table-of
 full-run =
     sym (run-goes 0 table-bytes equations-bytes (sym table-reads) refl checked)
     ∙ ap (run-from 0 (table-of 11 (singles 11)) 0) written-are
@@ -151,7 +151,7 @@ full-touches = gives-touches 1 2 (cons (var 2) nil)
 -- The table that the run ends with is good, and describes these bindings.
 pub full-end : GoodTable (run-state 0 table-bytes equations-bytes .table)
     × Describes (groups-of positive (run-state 0 table-bytes equations-bytes .table)) end
-unfolding side-told table-of
+unfolding side-numbered table-of
 full-end =
     run-described 0 table-bytes equations-bytes (table-of 11 (singles 11)) table-reads checked (unbound 11) end
     (rw (value-groups positive eleven-wide eleven-good) (unbound-described 11))

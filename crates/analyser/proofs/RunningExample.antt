@@ -15,13 +15,13 @@ use Rattle.tables.specs.declared.Answer.the-variants.{Accepted}
 use Rattle.tables.specs.declared.Answered.{Answered}
 use Rattle.tables.specs.Values.{GoodTable}
 use Rattle.terms.specs.Checks as C
-use Rattle.sharing.specs.Calls.{side-told}
-use Rattle.sharing.specs.Outcomes.{groups-of}
-use Rattle.byte_calls.specs.Calls.{check-bytes, tokens-of}
+use Rattle.operations.specs.Operations.{side-numbered}
+use Rattle.operations.specs.Outcomes.{groups-of}
+use Rattle.byte_calls.specs.ByteCalls.{check-bytes, tokens-of}
 use Rattle.running.specs.States.{started}
 use Rattle.analyser.specs.Demand3.{Step, steps}
 use Rattle.analyser.specs.Demand2.{Reads}
-use Rattle.analyser.proofs.ByBytes.{term-passed}
+use Rattle.byte_calls.proofs.AfterChecks.{term-passed}
 use Rattle.analyser.proofs.Demand3.{steps-described}
 use Rattle.analyser.proofs.OnEntries.{term-checks, table-read, value-good, value-groups, value-refused, HasTable}
 use Rattle.analyser.proofs.OnEntries.{StepsGive, steps-end, step-refused, step-accepted}
@@ -62,17 +62,17 @@ unnamed-refused = refl
 
 -- ---- On either side
 
-module _ (n : ℕ) {before between after : Entries} (w : Tables (side-told n) before between after) (b : List ℕ)
+module _ (n : ℕ) {before between after : Entries} (w : Tables (side-numbered n) before between after) (b : List ℕ)
     (reads : Reads b (three before)) where
-  -- the state that the bytes start, of the side that n tells
-  started-has : HasTable (side-told n) (three before) (started n b)
+  -- the state that the bytes start, of the side numbered n
+  started-has : HasTable (side-numbered n) (three before) (started n b)
   unfolding started
   started-has = record { on = refl; at = ap (λ (y : Answered). y .table) reads }
 
   -- The steps feed the model an accepted equation, a refusal and an accepted equation, and leave the last table.
   pub taken-give : StepsGive (started n b) taken (accepted first ∷ refused ∷ accepted second ∷ []) (three after)
   taken-give =
-      let side = side-told n in
+      let side = side-numbered n in
       let good = between-good side w .0 in
       let unnamed = term-passed side (three between) 4 (unnamed-step .term) unnamed-passes
       ∙ value-refused side three-wide good 4 (tokens-of (unnamed-step .term)) unnamed-refused in
@@ -82,14 +82,14 @@ module _ (n : ℕ) {before between after : Entries} (w : Tables (side-told n) be
 
   -- The table that they leave is the last one, is good, and describes the last bindings.
   pub running-end : (steps (started n b) taken .table ≡ three after) × GoodTable (steps (started n b) taken .table)
-      × Describes (groups-of (side-told n) (steps (started n b) taken .table)) end
+      × Describes (groups-of (side-numbered n) (steps (started n b) taken .table)) end
   unfolding started
   running-end =
-      let good = value-good (side-told n) three-wide (w .good) in
-      let described : Describes (groups-of (side-told n) (three before)) start =
-      rw (value-groups (side-told n) three-wide (w .good)) (w .described) in
+      let good = value-good (side-numbered n) three-wide (w .good) in
+      let described : Describes (groups-of (side-numbered n) (three before)) start =
+      rw (value-groups (side-numbered n) three-wide (w .good)) (w .described) in
       let ends = steps-described taken (started n b) (subst GoodTable (sym (started-has .at)) good) start end
-      (subst (λ (t : Table). Describes (groups-of (side-told n) t) start) (sym (started-has .at)) described)
+      (subst (λ (t : Table). Describes (groups-of (side-numbered n) t) start) (sym (started-has .at)) described)
       (rw (taken-give .fed) calls-reach) in
       (taken-give .left, ends .0, ends .1)
 
@@ -115,12 +115,12 @@ negative-reads = refl
 pub positive-steps : (steps (started 0 positive-bytes) taken .table ≡ three end-table)
     × GoodTable (steps (started 0 positive-bytes) taken .table)
     × Describes (groups-of positive (steps (started 0 positive-bytes) taken .table)) end
-unfolding side-told
+unfolding side-numbered
 positive-steps = running-end 0 positive-tables positive-bytes positive-reads
 
 -- Started negative, they leave the table 100 01* *10 0*1 *01, which is good and describes the last bindings.
 pub negative-steps : (steps (started 1 negative-bytes) taken .table ≡ three negative-end)
     × GoodTable (steps (started 1 negative-bytes) taken .table)
     × Describes (groups-of negative (steps (started 1 negative-bytes) taken .table)) end
-unfolding side-told
+unfolding side-numbered
 negative-steps = running-end 1 negative-tables negative-bytes negative-reads

@@ -23,17 +23,17 @@ use Rattle.tables.specs.declared.Answered.{Answered}
 use Rattle.tables.specs.Refusals.{refusal-number, member, one-of}
 use Rattle.tables.specs.Values.{zero-table, accepts, refuses, good-width, all-clean, GoodTable}
 use Rattle.terms.specs.Checks as C
-use Rattle.sharing.specs.Calls.{good-keep, convert-call}
-use Rattle.sharing.specs.Outcomes.{groups-of, Becomes, ConvertEarly, ConvertReady, ConvertNeeds, EquationNeeds, JoinNeeds}
-use Rattle.sharing.specs.Outcomes.{ProjectionNeeds, ChangeNeeds}
+use Rattle.operations.specs.Operations.{good-keep, convert-call}
+use Rattle.operations.specs.Outcomes.{groups-of, Becomes, ConvertEarly, ConvertReady, ConvertNeeds, EquationNeeds, JoinNeeds}
+use Rattle.operations.specs.Outcomes.{ProjectionNeeds, ChangeNeeds}
 use Rattle.questions.specs.declared.Reply.{Reply}
 use Rattle.questions.specs.Replies.{reply-number, reply-word, good-sets}
 use Rattle.forms.specs.declared.Extent.the-variants.{Whole, Front}
-use Rattle.forms.specs.Tables.{sized, first-size, second-size, table-length, fits, cares, values, written-entries, read-table}
-use Rattle.forms.specs.Tables.{Passed, table-form}
-use Rattle.byte_calls.specs.Calls.{check-bytes, tokens-of, change-side-bytes, equation-bytes, join-bytes, projection-bytes}
-use Rattle.byte_calls.specs.Calls.{equal-bytes, ground-bytes, independent-bytes}
-use Rattle.outputs.specs.Outputs.{put-number, put-bytes}
+use Rattle.forms.specs.TableForms.{sized, first-size, second-size, table-length, fits, cares, values, written-entries, read-table}
+use Rattle.forms.specs.TableForms.{Passed, table-form}
+use Rattle.byte_calls.specs.ByteCalls.{check-bytes, tokens-of, change-side-bytes, equation-bytes, join-bytes}
+use Rattle.byte_calls.specs.ByteCalls.{projection-bytes, equal-bytes, ground-bytes, independent-bytes}
+use Rattle.byte_calls.specs.Outputs.{output-number, output-bytes}
 
 -- ---- What is handed back
 
@@ -51,11 +51,11 @@ pub record Wrote (u : Table) (before now : List ℕ) : Type 0 where
 -- The law of handing back: where the call's own answer is accepted, 0 exactly where the output holds the form and 9 exactly where
 -- it does not, so that no 2, 3 or 4 comes from there; a refusal keeps its number. The form is written at 0, and nothing else.
 pub record HandedBack (a : Answered) (out : List ℕ) : Type 0 where
-  pub zero-where : a .answer ≡ Accepted → (put-number a out ≡ 0) ↔ Fits (a .table) out
-  pub nine-where : a .answer ≡ Accepted → (put-number a out ≡ 9) ↔ ¬ (Fits (a .table) out)
-  pub refused : (r : Refusal) → a .answer ≡ Refused r → put-number a out ≡ refusal-number r
-  pub wrote : put-number a out ≡ 0 → Wrote (a .table) out (put-bytes a out)
-  pub unwritten : ¬ (put-number a out ≡ 0) → put-bytes a out ≡ out
+  pub zero-where : a .answer ≡ Accepted → (output-number a out ≡ 0) ↔ Fits (a .table) out
+  pub nine-where : a .answer ≡ Accepted → (output-number a out ≡ 9) ↔ ¬ (Fits (a .table) out)
+  pub refused : (r : Refusal) → a .answer ≡ Refused r → output-number a out ≡ refusal-number r
+  pub wrote : output-number a out ≡ 0 → Wrote (a .table) out (output-bytes a out)
+  pub unwritten : ¬ (output-number a out ≡ 0) → output-bytes a out ≡ out
 
 -- What an exported call that writes a table returns. 0 exactly where it is ready, no list of the growth rule is full and the output
 -- holds the form: then the bytes written read as a table with the result. 8 exactly where it is ready and some list needs entry 257. 9
@@ -63,13 +63,13 @@ pub record HandedBack (a : Answered) (out : List ℕ) : Type 0 where
 -- holds what it held.
 pub record Exported (ns : List ℕ) (Early : Refusal → Type 0) (Ready : Type 0) (Full : Ready → Type 0)
     (Result : Ready → Table → Type 0) (a : Answered) (out : List ℕ) : Type 0 where
-  pub zero-where : (put-number a out ≡ 0) ↔ ((ready : Ready) × ¬ (Full ready) × Fits (a .table) out)
-  pub eight-where : (put-number a out ≡ 8) ↔ ((ready : Ready) × Full ready)
-  pub nine-where : (put-number a out ≡ 9) ↔ ((ready : Ready) × ¬ (Full ready) × ¬ (Fits (a .table) out))
-  pub early-where : (r : Refusal) → T (one-of ns r) → (put-number a out ≡ refusal-number r) ↔ Early r
-  pub no-other : T (member (put-number a out) (0 ∷ 8 ∷ 9 ∷ ns))
-  pub result : put-number a out ≡ 0 → (ready : Ready) × Result ready (a .table) × Wrote (a .table) out (put-bytes a out)
-  pub unwritten : ¬ (put-number a out ≡ 0) → put-bytes a out ≡ out
+  pub zero-where : (output-number a out ≡ 0) ↔ ((ready : Ready) × ¬ (Full ready) × Fits (a .table) out)
+  pub eight-where : (output-number a out ≡ 8) ↔ ((ready : Ready) × Full ready)
+  pub nine-where : (output-number a out ≡ 9) ↔ ((ready : Ready) × ¬ (Full ready) × ¬ (Fits (a .table) out))
+  pub early-where : (r : Refusal) → T (one-of ns r) → (output-number a out ≡ refusal-number r) ↔ Early r
+  pub no-other : T (member (output-number a out) (0 ∷ 8 ∷ 9 ∷ ns))
+  pub result : output-number a out ≡ 0 → (ready : Ready) × Result ready (a .table) × Wrote (a .table) out (output-bytes a out)
+  pub unwritten : ¬ (output-number a out ≡ 0) → output-bytes a out ≡ out
 
 -- ---- Reading
 
@@ -187,8 +187,8 @@ JoinExported side b c out =
 -- What an exported question returns, and the word afterwards. 0 exactly where the question is ready; then the word is 1 exactly
 -- where the statement over groups holds, and 0 exactly where it does not. A number of ns exactly in its condition. No other number,
 -- so that none meets 8; and but for 0 the word is what it was.
-pub record Asked (ns : List ℕ) (Early : Refusal → Type 0) (Ready : Type 0) (Statement : Ready → Type 0) (q : Reply) (word : ℕ) :
-    Type 0 where
+pub record ExportedReply (ns : List ℕ) (Early : Refusal → Type 0) (Ready : Type 0) (Statement : Ready → Type 0)
+    (q : Reply) (word : ℕ) : Type 0 where
   pub zero-where : (reply-number q ≡ 0) ↔ Ready
   pub yes-where : (ready : Ready) → (reply-word q word ≡ 1) ↔ Statement ready
   pub no-where : (ready : Ready) → (reply-word q word ≡ 0) ↔ ¬ (Statement ready)
@@ -197,21 +197,22 @@ pub record Asked (ns : List ℕ) (Early : Refusal → Type 0) (Ready : Type 0) (
   pub unwritten : ¬ (reply-number q ≡ 0) → reply-word q word ≡ word
 
 -- `sharing_equal`, of tables of either side.
-abbrev pub EqualAsked : Side → List ℕ → List ℕ → ℕ → Type 0
-EqualAsked side b c word =
-    Asked (1 ∷ 2 ∷ 3 ∷ 4 ∷ 10 ∷ []) (AfterRead b (SecondEarly c)) (ReadAnd b (SecondReady c))
+abbrev pub EqualExported : Side → List ℕ → List ℕ → ℕ → Type 0
+EqualExported side b c word =
+    ExportedReply (1 ∷ 2 ∷ 3 ∷ 4 ∷ 10 ∷ []) (AfterRead b (SecondEarly c)) (ReadAnd b (SecondReady c))
     (λ q. Equal (groups-of side (q .table)) (groups-of side (q .ready .table))) (equal-bytes b c) word
 
 -- `sharing_ground`: 5 for a variable not 1 to l.
-abbrev pub GroundAsked : Side → List ℕ → ℕ → ℕ → Type 0
-GroundAsked side b x word =
-    Asked (1 ∷ 2 ∷ 3 ∷ 4 ∷ 5 ∷ []) (AfterRead b (λ t. Fails (named (t .l) x) R.Name)) (ReadAnd b (λ t. named (t .l) x ≡ true))
+abbrev pub GroundExported : Side → List ℕ → ℕ → ℕ → Type 0
+GroundExported side b x word =
+    ExportedReply (1 ∷ 2 ∷ 3 ∷ 4 ∷ 5 ∷ []) (AfterRead b (λ t. Fails (named (t .l) x) R.Name))
+    (ReadAnd b (λ t. named (t .l) x ≡ true))
     (λ q. Ground (groups-of side (q .table)) x) (ground-bytes side b x) word
 
 -- `sharing_independent`: 5 for a bit above l in either set.
-abbrev pub IndependentAsked : Side → List ℕ → ℕ → ℕ → ℕ → Type 0
-IndependentAsked side b first second word =
-    Asked (1 ∷ 2 ∷ 3 ∷ 4 ∷ 5 ∷ []) (AfterRead b (λ t. Fails (good-sets (t .l) first second) R.Name))
+abbrev pub IndependentExported : Side → List ℕ → ℕ → ℕ → ℕ → Type 0
+IndependentExported side b first second word =
+    ExportedReply (1 ∷ 2 ∷ 3 ∷ 4 ∷ 5 ∷ []) (AfterRead b (λ t. Fails (good-sets (t .l) first second) R.Name))
     (ReadAnd b (λ t. good-sets (t .l) first second ≡ true))
     (λ q. Independent (groups-of side (q .table)) (set (q .table .l) first) (set (q .table .l) second))
     (independent-bytes side b first second) word

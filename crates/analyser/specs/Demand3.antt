@@ -15,12 +15,12 @@ use Rattle.tables.specs.declared.Refusal.{Refusal}
 use Rattle.tables.specs.declared.Answer.{Answer}
 use Rattle.tables.specs.declared.Answer.the-variants.{Accepted, Refused}
 use Rattle.tables.specs.Values.{accepts}
-use Rattle.sharing.specs.Calls.{equation-call}
+use Rattle.operations.specs.Operations.{equation-call}
 use Rattle.forms.specs.declared.Extent.the-variants.{Whole, Front}
-use Rattle.forms.specs.Tables.{read-table}
-use Rattle.forms.specs.Equations.{Written}
-use Rattle.byte_calls.specs.Calls.{tokens-of, equation-bytes}
-use Rattle.outputs.specs.Outputs.{put-answer, put-bytes}
+use Rattle.forms.specs.TableForms.{read-table}
+use Rattle.forms.specs.EquationForms.{Written}
+use Rattle.byte_calls.specs.ByteCalls.{tokens-of, equation-bytes}
+use Rattle.byte_calls.specs.Outputs.{output-answer, output-bytes}
 use Rattle.running.specs.declared.Running.{Running}
 use Rattle.running.specs.States.{step-answered, advanced}
 
@@ -56,10 +56,10 @@ pub data Calls (side : Side) : Table → List Event → Table → Type 0 where
       → Calls side t (event-of (equation-call side t x ts .answer) (equation-given (t .l) x ts) ∷ events) u
   bytes : (b : List ℕ) (t : Table) (x : ℕ) (term out : List ℕ) {t′ : Table} {events : List Event} {u : Table}
       → read-table Whole b ≡ accepts t
-      → Returns t (put-bytes (equation-bytes side b x term) out) (put-answer (equation-bytes side b x term) out) t′
+      → Returns t (output-bytes (equation-bytes side b x term) out) (output-answer (equation-bytes side b x term) out) t′
       → Calls side t′ events u
       → Calls side t
-      (event-of (put-answer (equation-bytes side b x term) out) (equation-given (t .l) x (tokens-of term)) ∷ events) u
+      (event-of (output-answer (equation-bytes side b x term) out) (equation-given (t .l) x (tokens-of term)) ∷ events) u
 
 -- ---- The running analysis
 

@@ -1,4 +1,4 @@
 pub mod Demand2
 pub mod Demand3
-pub mod Runs
-pub mod Goals
+pub mod RunEnds
+pub mod HandedOn

@@ -1,49 +1,48 @@
 // The analyser for C: every call of include/sharing.h. Each returns 0 where it is accepted, else the number of the refusal; after
-// a refusal every byte that was lent holds what it held. A side is told by a number: 0 is positive, any other negative.
+// a refusal every byte that was lent holds what it held. A side is a number: 0 is positive, any other negative.
 use forms::Extent;
 use running::Running;
 ghost use mathlib.Core.Path.{_≡_};
-ghost use Rattle.sharing.specs.Calls.{convert-call};
-ghost use Rattle.sharing.specs.Calls.{side-told};
+ghost use Rattle.operations.specs.Operations.{side-numbered, convert-call};
 ghost use Rattle.forms.specs.declared.Extent.the-variants.{Whole};
-ghost use Rattle.forms.specs.Tables.{read-table};
-ghost use Rattle.byte_calls.specs.Calls.{change-side-bytes, equation-bytes, join-bytes, projection-bytes, equal-bytes};
-ghost use Rattle.byte_calls.specs.Calls.{ground-bytes, independent-bytes};
+ghost use Rattle.forms.specs.TableForms.{read-table};
+ghost use Rattle.byte_calls.specs.ByteCalls.{change-side-bytes, equation-bytes, join-bytes, projection-bytes, equal-bytes};
+ghost use Rattle.byte_calls.specs.ByteCalls.{ground-bytes, independent-bytes};
 ghost use Rattle.questions.specs.Replies.{reply-number, reply-word};
-ghost use Rattle.outputs.specs.Outputs.{put-number, put-bytes};
-ghost use Rattle.outputs.specs.Parts.{lent, smaller-part};
+ghost use Rattle.byte_calls.specs.Outputs.{output-number, output-bytes};
+ghost use Rattle.byte_calls.specs.BufferParts.{lent, smaller-part};
 ghost use Rattle.running.specs.States.{started, step-number, advanced, run-state, state-number, state-bytes};
 
 // Reads a form, which grows its entries, and writes it again.
 #[no_mangle]
 pub extern "C" fn sharing_read(table: &[u8], out: &mut [u8]) -> u32
-    ensures number { λ r. ⌜ r ≡ put-number (read-table Whole (now (table .entry))) (now (out .entry)) ⌝ }
-    ensures bytes { λ r. ⌜ now (out .exit) ≡ put-bytes (read-table Whole (now (table .entry))) (now (out .entry)) ⌝ }
+    ensures number { λ r. ⌜ r ≡ output-number (read-table Whole (now (table .entry))) (now (out .entry)) ⌝ }
+    ensures bytes { λ r. ⌜ now (out .exit) ≡ output-bytes (read-table Whole (now (table .entry))) (now (out .entry)) ⌝ }
 {
-    outputs::put(forms::read_table(Extent::Whole, table), out)
+    byte_calls::outputs::write(forms::read_table(Extent::Whole, table), out)
 }
 
 // Converts groups, bit i - 1 for Xi, to a positive table.
 #[no_mangle]
 pub extern "C" fn sharing_convert(l: u32, groups: &[u32], out: &mut [u8]) -> u32
-    ensures number { λ r. ⌜ r ≡ put-number (convert-call l (now (groups .entry))) (now (out .entry)) ⌝ }
-    ensures bytes { λ r. ⌜ now (out .exit) ≡ put-bytes (convert-call l (now (groups .entry))) (now (out .entry)) ⌝ }
+    ensures number { λ r. ⌜ r ≡ output-number (convert-call l (now (groups .entry))) (now (out .entry)) ⌝ }
+    ensures bytes { λ r. ⌜ now (out .exit) ≡ output-bytes (convert-call l (now (groups .entry))) (now (out .entry)) ⌝ }
 {
-    outputs::put(sharing::convert(l, groups), out)
+    byte_calls::outputs::write(operations::convert(l, groups), out)
 }
 
 // Changes the side of a table.
 #[no_mangle]
 pub extern "C" fn sharing_change_side(side: u32, table: &[u8], out: &mut [u8]) -> u32
     ensures number { λ r. ⌜
-        r ≡ put-number (change-side-bytes (side-told side) (now (table .entry))) (now (out .entry))
+        r ≡ output-number (change-side-bytes (side-numbered side) (now (table .entry))) (now (out .entry))
         ⌝ }
     ensures bytes { λ r. ⌜
-        now (out .exit) ≡ put-bytes (change-side-bytes (side-told side) (now (table .entry))) (now (out .entry))
+        now (out .exit) ≡ output-bytes (change-side-bytes (side-numbered side) (now (table .entry))) (now (out .entry))
         ⌝ }
 {
-    outputs::put(
-        byte_calls::change_side(sharing::side_numbered(side), table),
+    byte_calls::outputs::write(
+        byte_calls::change_side(operations::side_numbered(side), table),
         out,
     )
 }
@@ -58,15 +57,15 @@ pub extern "C" fn sharing_equation(
     out: &mut [u8],
 ) -> u32
     ensures number { λ r. ⌜
-        r ≡ put-number (equation-bytes (side-told side) (now (table .entry)) variable (now (term .entry))) (now (out .entry))
+        r ≡ output-number (equation-bytes (side-numbered side) (now (table .entry)) variable (now (term .entry))) (now (out .entry))
         ⌝ }
     ensures bytes { λ r. ⌜
         now (out .exit)
-        ≡ put-bytes (equation-bytes (side-told side) (now (table .entry)) variable (now (term .entry))) (now (out .entry))
+        ≡ output-bytes (equation-bytes (side-numbered side) (now (table .entry)) variable (now (term .entry))) (now (out .entry))
         ⌝ }
 {
-    outputs::put(
-        byte_calls::equation(sharing::side_numbered(side), table, variable, term),
+    byte_calls::outputs::write(
+        byte_calls::equation(operations::side_numbered(side), table, variable, term),
         out,
     )
 }
@@ -75,14 +74,14 @@ pub extern "C" fn sharing_equation(
 #[no_mangle]
 pub extern "C" fn sharing_join(side: u32, first: &[u8], second: &[u8], out: &mut [u8]) -> u32
     ensures number { λ r. ⌜
-        r ≡ put-number (join-bytes (side-told side) (now (first .entry)) (now (second .entry))) (now (out .entry))
+        r ≡ output-number (join-bytes (side-numbered side) (now (first .entry)) (now (second .entry))) (now (out .entry))
         ⌝ }
     ensures bytes { λ r. ⌜
-        now (out .exit) ≡ put-bytes (join-bytes (side-told side) (now (first .entry)) (now (second .entry))) (now (out .entry))
+        now (out .exit) ≡ output-bytes (join-bytes (side-numbered side) (now (first .entry)) (now (second .entry))) (now (out .entry))
         ⌝ }
 {
-    outputs::put(
-        byte_calls::join(sharing::side_numbered(side), first, second),
+    byte_calls::outputs::write(
+        byte_calls::join(operations::side_numbered(side), first, second),
         out,
     )
 }
@@ -91,14 +90,14 @@ pub extern "C" fn sharing_join(side: u32, first: &[u8], second: &[u8], out: &mut
 #[no_mangle]
 pub extern "C" fn sharing_project(side: u32, table: &[u8], keep: u32, out: &mut [u8]) -> u32
     ensures number { λ r. ⌜
-        r ≡ put-number (projection-bytes (side-told side) (now (table .entry)) keep) (now (out .entry))
+        r ≡ output-number (projection-bytes (side-numbered side) (now (table .entry)) keep) (now (out .entry))
         ⌝ }
     ensures bytes { λ r. ⌜
-        now (out .exit) ≡ put-bytes (projection-bytes (side-told side) (now (table .entry)) keep) (now (out .entry))
+        now (out .exit) ≡ output-bytes (projection-bytes (side-numbered side) (now (table .entry)) keep) (now (out .entry))
         ⌝ }
 {
-    outputs::put(
-        byte_calls::project(sharing::side_numbered(side), table, keep),
+    byte_calls::outputs::write(
+        byte_calls::project(operations::side_numbered(side), table, keep),
         out,
     )
 }
@@ -111,19 +110,19 @@ pub extern "C" fn sharing_equal(first: &[u8], second: &[u8], answer: &mut u32) -
         now (answer .exit) ≡ reply-word (equal-bytes (now (first .entry)) (now (second .entry))) (now (answer .entry))
         ⌝ }
 {
-    outputs::tell(byte_calls::equal(first, second), answer)
+    byte_calls::outputs::reply(byte_calls::equal(first, second), answer)
 }
 
 // Is a variable ground: has no group it?
 #[no_mangle]
 pub extern "C" fn sharing_ground(side: u32, table: &[u8], variable: u32, answer: &mut u32) -> u32
-    ensures number { λ r. ⌜ r ≡ reply-number (ground-bytes (side-told side) (now (table .entry)) variable) ⌝ }
+    ensures number { λ r. ⌜ r ≡ reply-number (ground-bytes (side-numbered side) (now (table .entry)) variable) ⌝ }
     ensures word { λ r. ⌜
-        now (answer .exit) ≡ reply-word (ground-bytes (side-told side) (now (table .entry)) variable) (now (answer .entry))
+        now (answer .exit) ≡ reply-word (ground-bytes (side-numbered side) (now (table .entry)) variable) (now (answer .entry))
         ⌝ }
 {
-    outputs::tell(
-        byte_calls::ground(sharing::side_numbered(side), table, variable),
+    byte_calls::outputs::reply(
+        byte_calls::ground(operations::side_numbered(side), table, variable),
         answer,
     )
 }
@@ -137,14 +136,14 @@ pub extern "C" fn sharing_independent(
     second: u32,
     answer: &mut u32,
 ) -> u32
-    ensures number { λ r. ⌜ r ≡ reply-number (independent-bytes (side-told side) (now (table .entry)) first second) ⌝ }
+    ensures number { λ r. ⌜ r ≡ reply-number (independent-bytes (side-numbered side) (now (table .entry)) first second) ⌝ }
     ensures word { λ r. ⌜
         now (answer .exit)
-        ≡ reply-word (independent-bytes (side-told side) (now (table .entry)) first second) (now (answer .entry))
+        ≡ reply-word (independent-bytes (side-numbered side) (now (table .entry)) first second) (now (answer .entry))
         ⌝ }
 {
-    outputs::tell(
-        byte_calls::independent(sharing::side_numbered(side), table, first, second),
+    byte_calls::outputs::reply(
+        byte_calls::independent(operations::side_numbered(side), table, first, second),
         answer,
     )
 }
@@ -159,7 +158,7 @@ pub extern "C" fn sharing_smaller<'a, 'b>(
 )
     ensures { λ _. ⌜ lent (now (part .exit)) ≡ smaller-part (lent (positive .entry)) (lent (negative .entry)) ⌝ }
 {
-    *part = outputs::smaller(positive, negative);
+    *part = byte_calls::outputs::smaller(positive, negative);
 }
 
 // Applies equations in order, after the whole input was checked.

@@ -1,1 +1,3 @@
-pub mod Going
+pub mod AfterChecks
+pub mod Written
+pub mod SmallerPart

@@ -1,21 +1,23 @@
 // The calls on byte buffers, up to the table or the reply that they come to. Inner: not a public call.
+pub mod outputs; // what a call hands back: number, form, word, part
+
 use forms::Extent;
+use operations::Side;
 use questions::Reply;
-use sharing::Side;
 use tables::Answer;
 use tables::Answered;
 use tables::Refusal;
 use tables::Table;
 ghost use mathlib.Core.Path.{_≡_};
-ghost use Rattle.sharing.specs.Calls.{side-of};
-ghost use Rattle.byte_calls.specs.Calls.{check-bytes, term-call, change-side-bytes, equation-bytes, join-bytes};
-ghost use Rattle.byte_calls.specs.Calls.{projection-bytes, equal-bytes, ground-bytes, independent-bytes};
+ghost use Rattle.operations.specs.Operations.{side-of};
+ghost use Rattle.byte_calls.specs.ByteCalls.{check-bytes, term-call, change-side-bytes, equation-bytes, join-bytes};
+ghost use Rattle.byte_calls.specs.ByteCalls.{projection-bytes, equal-bytes, ground-bytes, independent-bytes};
 
 // The bytes of a term handed over by itself: 7 where half the length, rounded down, is above 1024; 1 where it is odd.
 fn check_bytes(term: &[u8]) -> Answer
     ensures { λ r. ⌜ r ≡ check-bytes (now (term .entry)) ⌝ }
 {
-    if 1024 < term.len() / 2 {
+    if codec::TOKENS < term.len() / 2 {
         return Answer::Refused(Refusal::Long);
     }
     if term.len() % 2 != 0 {
@@ -29,14 +31,14 @@ pub fn equation_term(side: Side, t: Table, x: u32, term: &[u8]) -> Answered
     ensures { λ r. ⌜ r ≡ term-call (side-of side) t x (now (term .entry)) ⌝ }
 {
     match tables::check(t) {
-        Answer::Refused(r) => sharing::refused(r, t),
+        Answer::Refused(r) => operations::refused(r, t),
         Answer::Accepted => match check_bytes(term) {
-            Answer::Refused(r) => sharing::refused(r, t),
+            Answer::Refused(r) => operations::refused(r, t),
             Answer::Accepted => {
                 let n = term.len() / 2;
                 let row = codec::tokens_at(term, 0, n);
                 let tokens: &[u16] = &row;
-                sharing::equation_checked(side, t, x, &tokens[..n])
+                operations::equation_checked(side, t, x, &tokens[..n])
             }
         },
     }
@@ -51,7 +53,7 @@ pub fn change_side(side: Side, b: &[u8]) -> Answered
     let t = read.table;
     match answer {
         Answer::Refused(r) => tables::refused(r),
-        Answer::Accepted => sharing::change_side(side, t),
+        Answer::Accepted => operations::change_side(side, t),
     }
 }
 
@@ -83,7 +85,7 @@ pub fn join(side: Side, b: &[u8], c: &[u8]) -> Answered
             let u = second.table;
             match other {
                 Answer::Refused(r) => tables::refused(r),
-                Answer::Accepted => sharing::join(side, t, u),
+                Answer::Accepted => operations::join(side, t, u),
             }
         }
     }
@@ -98,7 +100,7 @@ pub fn project(side: Side, b: &[u8], keep: u32) -> Answered
     let t = read.table;
     match answer {
         Answer::Refused(r) => tables::refused(r),
-        Answer::Accepted => sharing::project(side, t, keep),
+        Answer::Accepted => operations::project(side, t, keep),
     }
 }
 

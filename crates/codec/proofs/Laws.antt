@@ -91,9 +91,9 @@ sets-append (x ∷ xs) ys b i =
     sets-append xs ys (set b i x) (suc i) ∙ ap (λ (k : ℕ). sets (sets (set b i x) (suc i) xs) k ys) e
 
 -- a turn of the writer
-pub put-turn : (b₀ ws b : List ℕ) (at i : ℕ) → i < length ws → b ≡ sets b₀ at (bytes (take i ws))
+pub write-turn : (b₀ ws b : List ℕ) (at i : ℕ) → i < length ws → b ≡ sets b₀ at (bytes (take i ws))
     → sets b (at + 2 * i) (pair (getD ws i 0)) ≡ sets b₀ at (bytes (take (i + 1) ws))
-put-turn b₀ ws b at i h q =
+write-turn b₀ ws b at i h q =
     let e : length (bytes (take i ws)) ≡ 2 * i =
     length-bytes (take i ws) ∙ ap (λ (k : ℕ). 2 * k) (length-take-le i ws (omega arith)) in
     rw (q, add-one i) (sym (rw (bytes-more ws i, ← e) (sets-append (bytes (take i ws)) (pair (getD ws i 0)) b₀ at)))

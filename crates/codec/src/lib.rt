@@ -5,6 +5,9 @@ ghost use lib.ListN.{length, take, drop};
 ghost use lib.Seq.{sets};
 ghost use Rattle.codec.specs.Numbers.{number-at, numbers, sum, pair, bytes, with-zeros};
 
+// Room for the most tokens that an equation, or a list of equations, has.
+pub const TOKENS: usize = 1024;
+
 // A byte as a 16-bit number.
 fn wide(x: u8) -> u16
     ensures { λ r. ⌜ (r ≡ x) × (r < 256) ⌝ }
@@ -21,11 +24,11 @@ pub fn number_at(b: &[u8], at: usize) -> u16
 }
 
 // The n numbers from an index on, then zeros: tokens.
-pub fn tokens_at(b: &[u8], at: usize, n: usize) -> [u16; 1024]
+pub fn tokens_at(b: &[u8], at: usize, n: usize) -> [u16; TOKENS]
     requires { ⌜ (n ≤ 1024) × (at + 2 * n ≤ length (now b)) ⌝ }
     ensures { λ r. ⌜ r ≡ with-zeros 1024 (numbers n (drop at (now (b .entry)))) ⌝ }
 {
-    let mut out = [0u16; 1024];
+    let mut out = [0u16; TOKENS];
     let mut i = 0;
     while i < n {
         out[i] = number_at(b, at + 2 * i);
@@ -50,7 +53,7 @@ pub fn sum_at(b: &[u8], at: usize, n: usize) -> usize
 }
 
 // Stores a number, cut to 16 bits, at an index.
-pub fn put_number(b: &mut [u8], at: usize, w: u32)
+pub fn write_number(b: &mut [u8], at: usize, w: u32)
     requires { ⌜ at + 1 < length (now b) ⌝ }
     ensures { λ _. ⌜ now (b .exit) ≡ sets (now (b .entry)) at (pair w) ⌝ }
 {
@@ -59,7 +62,7 @@ pub fn put_number(b: &mut [u8], at: usize, w: u32)
 }
 
 // Stores the first n numbers from an index on.
-pub fn put_words(b: &mut [u8], at: usize, ws: &[u32; 256], n: usize)
+pub fn write_words(b: &mut [u8], at: usize, ws: &[u32; 256], n: usize)
     requires { ⌜ (n ≤ 256) × (at + 2 * n ≤ length (now b)) ⌝ }
     ensures { λ _. ⌜ now (b .exit) ≡ sets (now (b .entry)) at (bytes (take n (now (ws .entry)))) ⌝ }
 {
@@ -67,7 +70,7 @@ pub fn put_words(b: &mut [u8], at: usize, ws: &[u32; 256], n: usize)
     let s: &[u32] = ws;
     let mut i = 0;
     while i < n {
-        put_number(b, at + 2 * i, s[i]);
+        write_number(b, at + 2 * i, s[i]);
         i += 1;
     }
 }

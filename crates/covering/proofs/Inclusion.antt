@@ -11,7 +11,7 @@ use Rattle.model.specs.Growth.{Entries, covered}
 use Rattle.model.specs.Questions.{stands-for, equal}
 use Rattle.model.specs.Tables.{Side, positive, negative}
 use Rattle.covering.specs.Covering.{all-covered, within}
-use Rattle.covering.proofs.Every.{group-true, group-ext, group-and}
+use Rattle.covering.proofs.EveryGroup.{group-true, group-ext, group-and}
 use Rattle.covering.proofs.Pieces.{imply-or}
 
 -- the empty list is within any

@@ -1,7 +1,7 @@
-pub mod Every
+pub mod EveryGroup
 pub mod Splitting
 pub mod Pieces
 pub mod Narrowing
 pub mod Inclusion
-pub mod Firsts
-pub mod Meeting
+pub mod FirstVariables
+pub mod MeetingSets

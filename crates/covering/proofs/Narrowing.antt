@@ -1,4 +1,5 @@
--- A string narrowed to what an entry does not cover: its word, and that nothing else is lost. Assumes nothing.
+-- A string narrowed to what an entry does not cover (unit propagation): its word, and that nothing else is lost.
+-- Assumes nothing.
 use mathlib.Core.Bool.{Bool, true, false, _&&_, false≢true, cond}
 use mathlib.Core.List.{[], _∷_}
 use mathlib.Core.Path.{_≡_, refl, sym, ap, ap₂, _∙_}
@@ -12,15 +13,17 @@ use Rattle.model.specs.Groups.{Bits}
 use Rattle.model.specs.Strings.{Trit, t0, t1, t*, Trits, flip, covers-digit, subsumes-digit, covers, subsumes}
 use Rattle.model.specs.Growth.{Entries, covered, subsumed}
 use Rattle.model.proofs.Growth.{subsumed-covered}
-use Rattle.model.proofs.Strings.{subsumes-covers, subsumes-exact}
+use Rattle.model.proofs.Strings.{subsumes-covers}
+use Rattle.model.proofs.Subsuming.{subsumes-same, subsumes-trans}
 use Rattle.model.proofs.Tests.{true-of}
 use Rattle.words.specs.Words.{zero-bit, value-bit, zeros-of, value-of, word, high, low, halves, lacks-word, lone, lack-count}
 use Rattle.words.specs.Words.{opposite-word, near}
-use Rattle.words.proofs.Digits.{zero-l, value-l, zero-r, value-r, and-of, or-of, xor-of, on-cons, put, paired, nine}
+use Rattle.words.proofs.Digits.{zero-l, value-l, zero-r, value-r, and-of, or-of, xor-of, on-cons, digits-equal, paired, nine}
 use Rattle.words.proofs.Halves.{value-half, zeros-half, high-word, low-word}
 use Rattle.covering.specs.Covering.{Narrows, all-covered}
-use Rattle.words.proofs.OpeningLaws.{word-near}
-use Rattle.covering.proofs.Every.{test, bool-ext, both, left, right, untrue, implies, implied, group-true, group-at}
+use Rattle.words.proofs.LackedBits.{word-near}
+use Rattle.covering.proofs.EveryGroup.{test, bool-ext, both, left, right, untrue, implies, implied}
+use Rattle.covering.proofs.EveryGroup.{group-true, group-at}
 use Rattle.covering.proofs.Pieces.{covered-at}
 
 -- ---- The opposite of v where y is `*`, else y
@@ -72,7 +75,7 @@ narrow-zeros : (v y : Trits) → length v ≡ length y
 unfolding narrow narrow-digit zeros-of value-of
 narrow-zeros =
     paired _ refl (λ t u v y e ih.
-    on-cons _ (or-of _ _ (xor-of _ _ (and-of _ _ value-l value-r) value-l) zero-r) t u v y ∙ put ih (digit t u))
+    on-cons _ (or-of _ _ (xor-of _ _ (and-of _ _ value-l value-r) value-l) zero-r) t u v y ∙ digits-equal ih (digit t u))
   where
     digit : (t u : Trit)
         → bitOr (bitXor (bitAnd (value-bit t) (value-bit u)) (value-bit t)) (zero-bit u) ≡ zero-bit (narrow-digit t u)
@@ -84,7 +87,7 @@ narrow-values : (v y : Trits) → length v ≡ length y
 unfolding narrow narrow-digit zeros-of value-of
 narrow-values =
     paired _ refl (λ t u v y e ih.
-    on-cons _ (or-of _ _ (xor-of _ _ (and-of _ _ zero-l zero-r) zero-l) value-r) t u v y ∙ put ih (digit t u))
+    on-cons _ (or-of _ _ (xor-of _ _ (and-of _ _ zero-l zero-r) zero-l) value-r) t u v y ∙ digits-equal ih (digit t u))
   where
     digit : (t u : Trit)
         → bitOr (bitXor (bitAnd (zero-bit t) (zero-bit u)) (zero-bit t)) (value-bit u) ≡ value-bit (narrow-digit t u)
@@ -182,13 +185,9 @@ narrow-covers (t ∷ v) (u ∷ y) (b ∷ g) n k c f = go (subsumes-digit t u) re
 
 -- ---- Narrowing by an entry, by a list
 
--- a string subsumes itself
-subsumes-same : (s : Trits) → subsumes s s ≡ true
-subsumes-same s = true-of _ (subsumes-exact s s .1 (λ g c. c))
-
 -- nothing is narrowed
 pub narrows-same : (p : Bits → Bool) (t : Trits) {y : ℕ} → y ≡ word t → Narrows p t y
-narrows-same p t e = record { string = t; is = e; long = refl; inside = subsumes-same t; rest = λ g c _. c }
+narrows-same p t e = record { string = t; is = e; long = refl; inside = true-of _ (subsumes-same t); rest = λ g c _. c }
 
 -- y lacks one position at most; as the code makes it
 pub narrows-one : (v y o : ℕ) (s t : Trits) → length s ≡ length t → length s ≤ 32 → v ≡ word s → y ≡ word t
@@ -213,8 +212,7 @@ narrows-more τ {t = t} i h a b = record {
   string = b .string;
   is = b .is;
   long = b .long ∙ a .long;
-  inside = true-of _ (subsumes-exact t (b .string) .1 (λ g c.
-      subsumes-covers t (a .string) g (test (a .inside)) (subsumes-covers (a .string) (b .string) g (test (b .inside)) c)));
+  inside = true-of _ (subsumes-trans t (a .string) (b .string) (test (a .inside)) (test (b .inside)));
   rest = λ g c u. b .rest g (a .rest g c u) (untrue _ (λ k. false≢true (sym u ∙ covered-at τ g i h k)));
 }
 

@@ -18,8 +18,8 @@ use Rattle.model.proofs.Strings.{covers-length, some-covered, subsumes-covers, 
 use Rattle.model.proofs.Tests.{true-of}
 use Rattle.words.specs.Words.{word}
 use Rattle.covering.specs.Covering.{agreed, all-covered}
-use Rattle.covering.proofs.Every.{test, left, right, bool-ext, implies, implied, group-true, group-at, group-ext}
-use Rattle.covering.proofs.Every.{group-and}
+use Rattle.covering.proofs.EveryGroup.{test, left, right, bool-ext, implies, implied, group-true, group-at, group-ext}
+use Rattle.covering.proofs.EveryGroup.{group-and}
 use Rattle.covering.proofs.Splitting.{split-covers, agreed-length, agreed-matches, agreed-keeps, agreed-fixes}
 use Rattle.covering.proofs.Splitting.{subsumes-fixed}
 
@@ -129,9 +129,9 @@ no-split true false h e = sym h
 no-split false q h e = absurd (false≢true e)
 
 -- nothing to split at i
-pub left-pass : (l i : ℕ) (τ : Entries) (v s : Trits) (z : ℕ) (a : Left l i τ v s z)
+pub left-skip : (l i : ℕ) (τ : Entries) (v s : Trits) (z : ℕ) (a : Left l i τ v s z)
     → (fixed i v && not (fixed i (a .rest))) ≡ false → Left l (i + 1) τ v s z
-left-pass l i τ v s z a h = record {
+left-skip l i τ v s z a h = record {
   rest = a .rest;
   is = a .is;
   long = a .long;
@@ -159,7 +159,7 @@ module _ (l i : ℕ) (τ : Entries) (v s : Trits) (z : ℕ) (a : Left l i τ v s
   two : all-covered l τ s ≡ (all-covered l τ (opposed i v (a .rest)) && all-covered l τ (agreed i v (a .rest)))
   two = a .same ∙ covered-split l τ i v (a .rest) alike in-rest in-v
 
-  -- what `opposed` and `covered` ensure, put together: r is the answer for the piece
+  -- from what `opposed` and `covered` ensure: r is the answer for the piece
   pub answer : (piece : ℕ) (r : Bool)
       → (length (a .rest) ≡ length v → fixed i (a .rest) ≡ false → fixed i v ≡ true → piece ≡ word (opposed i v (a .rest)))
       → ((u : Trits) → length u ≡ l → piece ≡ word u → r ≡ all-covered l τ u) → all-covered l τ (opposed i v (a .rest)) ≡ r

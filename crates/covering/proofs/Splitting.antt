@@ -9,20 +9,18 @@ use native.Mathlib.Omega.{arith}
 use borrow.Author.Tests.{eqb-true}
 use lib.Bits.{bitAnd, bitOr, and-block, and-zero-r, and-high, and-lt, and-le-l, and-le-r, or-add-and, or-disjoint, or-shr, or-mod}
 use lib.Dec.{eqb, lit<}
-use lib.ListN.{length, getD, length-map}
+use lib.ListN.{length, length-map}
 use lib.Pow.{pow-pos, pow-lt, pow-add, split}
 use Rattle.model.specs.Groups.{Bits}
 use Rattle.model.specs.Strings.{Trit, t0, t1, t*, Trits, covers-digit, match-digit, subsumes-digit, fixed-digit, flip}
 use Rattle.model.specs.Strings.{covers, matches, subsumes, fixed, opposed}
-use Rattle.words.specs.Words.{care-of, set-word, word, high, low, halves, both as both-halves, fixed-word, opposite-word}
+use Rattle.words.specs.Words.{care-of, word, high, low, halves, both as both-halves, fixed-word, opposite-word}
 use Rattle.words.specs.Words.{opposed-word}
-use Rattle.words.proofs.Codec.{set-bit}
-use Rattle.words.proofs.Digits.{put}
 use Rattle.words.proofs.Halves.{high-lt, low-lt}
 use Rattle.words.proofs.Words.{word-opposite}
-use Rattle.words.proofs.Positions.{one-shl, both-joined, word-opposed}
+use Rattle.words.proofs.Positions.{one-shl, both-halves-or, fixed-bit, word-opposed}
 use Rattle.covering.specs.Covering.{agreed}
-use Rattle.covering.proofs.Every.{both, left, right}
+use Rattle.covering.proofs.EveryGroup.{both, left, right}
 
 -- ---- The word of a string that agrees at i: to agree is to oppose the opposite
 
@@ -53,32 +51,12 @@ agreed-word i y v s t h n short es et k =
     let f : length (map flip t) ≡ length t = length-map t flip in
     let back : opposite-word (word (map flip t)) ≡ word t =
     word-opposite (map flip t) (rw (f, ← n) short) ∙ ap word (flip-back t) in
-    rw (one-shl i 64 (omega arith), both-joined i h, es, et)
+    rw (one-shl i 64 (omega arith), both-halves-or i h, es, et)
     (ap (λ (x : ℕ). bitOr (word s) (bitAnd x (both-halves i))) (sym back)
     ∙ word-opposed i h (map flip t) s (n ∙ sym f) short k
     ∙ ap word (agreed-opposed i t s))
 
 -- ---- The test of a position to split
-
--- a bit of the care word
-care-set : (s : Trits) → care-of s ≡ set-word (map fixed-digit s)
-unfolding care-of set-word
-care-set [] = refl
-care-set (t0 ∷ s) = put (care-set s) refl
-care-set (t1 ∷ s) = put (care-set s) refl
-care-set (t* ∷ s) = put (care-set s) refl
-
--- a position of the set of fixed ones
-fixed-at : (i : ℕ) (s : Trits) → getD (map fixed-digit s) i false ≡ fixed i s
-unfolding fixed
-fixed-at zero [] = refl
-fixed-at (suc i) [] = refl
-fixed-at zero (t ∷ s) = refl
-fixed-at (suc i) (t ∷ s) = fixed-at i s
-
--- position i is fixed where bit i of the care word is 1
-fixed-bit : (i : ℕ) (s : Trits) → eqb (care-of s / 2 ^ i % 2) 1 ≡ fixed i s
-fixed-bit i s = rw (care-set s) (set-bit (map fixed-digit s) i ∙ fixed-at i s)
 
 -- a digit is 0 where it is not 1
 not-one : (d : ℕ) → d < 2 → eqb d 0 ≡ not (eqb d 1)

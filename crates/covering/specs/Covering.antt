@@ -15,7 +15,8 @@ pub record Nearest (τ : Entries) (y : Trits) (r : ℕ) : Type 0 where
   pub found : r < length τ → matches (getD τ r []) y ≡ true
   pub no-match : length τ ≤ r → (i : ℕ) → i < length τ → matches (getD τ i []) y ≡ false
 
--- r is the word of a string that y subsumes, and that covers all that y covers but what passes the test p.
+-- r is the word of a string that y subsumes, and that covers all that y covers but what passes the test p: only positions
+-- that are forced are fixed (in the field: unit propagation).
 pub record Narrows (p : Bits → Bool) (y : Trits) (r : ℕ) : Type 0 where
   pub string : Trits
   pub is : r ≡ word string
@@ -23,7 +24,8 @@ pub record Narrows (p : Bits → Bool) (y : Trits) (r : ℕ) : Type 0 where
   pub inside : subsumes y string ≡ true
   pub rest : (g : Bits) → covers y g ≡ true → p g ≡ false → covers string g ≡ true
 
--- y with v's value at position i.
+-- y with v's value at position i. The piece with the opposite of v there being taken off, this is left (in the field: the
+-- disjoint sharp operation).
 unfoldable pub agreed : ℕ → Trits → Trits → Trits
 agreed i [] y = y
 agreed i (u ∷ v) [] = []

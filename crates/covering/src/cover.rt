@@ -7,11 +7,12 @@ ghost use lib.ListN.{length};
 ghost use Rattle.model.specs.Strings.{Trits, covers, matches, fixed};
 ghost use Rattle.model.specs.Growth.{covered as covered-list};
 ghost use Rattle.words.specs.Words.{word, opposed-word};
-ghost use Rattle.lists.specs.Lists.{OfString};
+ghost use Rattle.lists.specs.WorkingLists.{OfString};
 ghost use Rattle.covering.specs.Covering.{Narrows, Nearest, agreed as agreed-string, all-covered};
 
 // y with what each group has that y covers and v does not: where y lacks just one position of v, the opposite of v there,
-// which y has already where the two do not match. Else y as it is.
+// which y has already where the two do not match. Else y as it is. (In the field: unit propagation; it fixes a position that
+// is forced.)
 fn narrowed_by(v: u64, y: u64) -> u64
     ensures more { λ r. ⌜ y ≤ r ⌝ }
     ensures strings { λ r. ⌜
@@ -28,7 +29,7 @@ fn narrowed_by(v: u64, y: u64) -> u64
     words::opposite(w) | y
 }
 
-// y with what each group has that y covers and no entry does, as far as one entry after another tells.
+// y with what each group has that y covers and no entry does, by one entry after another: one round of unit propagation.
 fn narrowed(list: &[u64; 256], n: usize, y: u64) -> u64
     requires { ⌜ n ≤ 256 ⌝ }
     ensures more { λ r. ⌜ y ≤ r ⌝ }
@@ -45,6 +46,9 @@ fn narrowed(list: &[u64; 256], n: usize, y: u64) -> u64
     x
 }
 
+// The rank of an entry that does not match: above any number of pieces.
+const NO_MATCH: u32 = 65;
+
 // How many pieces v leaves of y: one for each position that is fixed in v and `*` in y. 65 where v and y do not match.
 fn rank(v: u64, y: u64) -> u32
     ensures bound { λ r. ⌜ r ≤ 65 ⌝ }
@@ -54,7 +58,7 @@ fn rank(v: u64, y: u64) -> u32
         ⌝ }
 {
     if !words::matches(v, y) {
-        return 65;
+        return NO_MATCH;
     }
     u64::count_ones((v & y) ^ v)
 }
@@ -67,7 +71,7 @@ fn nearest(list: &[u64; 256], n: usize, y: u64) -> usize
     ensures strings { λ r. ⌜ ((l : ℕ) → OfString l (now (list .entry)) n y (λ τ s. Nearest τ s r)) ⌝ }
 {
     let mut best = n;
-    let mut few = 65;
+    let mut few = NO_MATCH;
     let mut i = 0;
     while i < n {
         let k = rank(list[i], y);
@@ -104,9 +108,10 @@ fn agreed(y: u64, v: u64, i: u32) -> u64
     y | (v & ((bit << 32) | bit))
 }
 
-// Is every group that y covers covered by an entry? What y covers outside a matching entry v falls into disjoint pieces, one
-// for each position that is fixed in v and `*` in y: the opposite of v there, and v's values before it. First comes what spares
-// that: one entry that subsumes y; and the positions that are forced, which are fixed without a split.
+// Is every group that y covers covered by an entry? What y covers outside a matching entry v falls into disjoint pieces (in
+// the field: y sharp v, disjoint), one for each position that is fixed in v and `*` in y: the opposite of v there, and v's
+// values before it. First comes what spares that: one entry that subsumes y; and unit propagation, which fixes the positions
+// that are forced without a split.
 pub fn covered(list: &[u64; 256], n: usize, l: u32, y: u64) -> bool
     requires { ⌜ (n ≤ 256) × (l ≤ 32) ⌝ }
     ensures { λ r. ⌜ OfString l (now (list .entry)) n y (λ τ s. r ≡ all-covered l τ s) ⌝ }

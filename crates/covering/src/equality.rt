@@ -4,7 +4,7 @@ ghost use Prim.Native.Nat.{_≤_};
 ghost use Rattle.model.specs.Growth.{Entries};
 ghost use Rattle.model.specs.Tables.{Side};
 ghost use Rattle.model.specs.Questions.{equal as equal-lists};
-ghost use Rattle.lists.specs.Lists.{Holds};
+ghost use Rattle.lists.specs.WorkingLists.{Holds};
 ghost use Rattle.covering.specs.Covering.{within};
 
 // Is every group that the first list covers covered by the second?

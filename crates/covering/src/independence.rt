@@ -9,7 +9,7 @@ ghost use Rattle.model.specs.Growth.{Entries};
 ghost use Rattle.model.specs.Tables.{positive, negative};
 ghost use Rattle.model.specs.Questions.{ground, independent};
 ghost use Rattle.words.specs.Words.{word, set-word};
-ghost use Rattle.lists.specs.Lists.{Holds, OfString};
+ghost use Rattle.lists.specs.WorkingLists.{Holds, OfString};
 ghost use Rattle.covering.specs.Sets.{greatest, first-string, apart};
 
 // Can one group that e covers meet both sets? It can unless e has 0 at all of one of them.

@@ -1,24 +1,26 @@
 -- Forms that are cut short or followed by more bytes. Assumes nothing.
-use mathlib.Core.Path.{_≡_, refl, sym, ap, _∙_}
+use mathlib.Core.Path.{_≡_, refl, sym, _∙_}
 use mathlib.Core.Bool.{Bool, true, false, cond}
 use mathlib.Core.List.{List, [], _∷_, _++_}
-use Prim.Native.Nat.{ℕ, zero, suc, _+_, _*_, _≤_, _<_}
+use Prim.Native.Nat.{ℕ, _+_, _*_, _≤_, _<_}
 use native.Mathlib.Omega.{arith}
 use borrow.Author.Tests.{leb-true, eqb-true, lt-leb, le-leb, ne-eqb}
-use lib.ListN.{length, getD, take, drop, length-append, length-take, length-drop, List·getD-append}
-use lib.Seq.{getD-take, drop-append-le}
+use lib.ListN.{length, getD, take, length-append, length-take, List·getD-append}
+use lib.Seq.{getD-take}
 use Rattle.tables.specs.declared.Table.{Table}
 use Rattle.tables.specs.declared.Refusal.the-variants as R
 use Rattle.tables.specs.declared.Answer.the-variants.{Accepted, Refused}
 use Rattle.tables.specs.Values.{zero-table, accepts, refuses}
+use Rattle.terms.specs.Checks.{most-tokens}
 use Rattle.codec.specs.Numbers.{numbers, sum}
 use Rattle.forms.specs.declared.Extent.{Extent}
 use Rattle.forms.specs.declared.Extent.the-variants.{Whole, Front}
-use Rattle.forms.specs.Tables.{sized, first-size, second-size, table-length, fits, written-entries}
-use Rattle.forms.specs.Tables.{read-entries, read-sized, read-table}
-use Rattle.forms.specs.Equations.{equations-length, equations-of, check-sized}
-use Rattle.forms.specs.Equations.{share-out, check-each, check-equations}
-use Rattle.forms.specs.Tables.{Passed}
+use Rattle.forms.specs.TableForms.{sized, first-size, second-size, table-length, fits, written-entries}
+use Rattle.forms.specs.TableForms.{read-entries, read-sized, read-table}
+use Rattle.forms.specs.EquationForms.{most-equations, equations-length, equations-of, check-sized}
+use Rattle.forms.specs.EquationForms.{share-out, check-each, check-equations}
+use Rattle.forms.specs.TableForms.{Passed}
+use Rattle.forms.proofs.Rows.{numbers-within}
 use Rattle.forms.proofs.Tests.{grown-table, reads-passed, equations-passed}
 
 -- ---- The sizes at the front
@@ -85,18 +87,6 @@ table-longer b t e y c =
     torn (p .0) Whole (b ++ (y ∷ c)) (λ s. longer-sizes b (y ∷ c) (p .0 .sizes))
     (ne-eqb (table-length (second-size b)) (length (b ++ (y ∷ c))) (λ q. omega (arith, p .2, length-append b (y ∷ c))))
 
-numbers-front : (n : ℕ) (b c : List ℕ) → 2 * n ≤ length b → numbers n (b ++ c) ≡ numbers n b
-unfolding numbers
-numbers-front zero b c h = refl
-numbers-front (suc n) [] c h = absurd (omega arith)
-numbers-front (suc n) (p ∷ []) c h = absurd (omega arith)
-numbers-front (suc n) (p ∷ q ∷ b) c h = ap (λ (r : List ℕ). (p + 256 * q) ∷ r) (numbers-front n b c (omega arith))
-
--- the numbers from an index on
-numbers-within : (at n : ℕ) (b c : List ℕ) → at + 2 * n ≤ length b → numbers n (drop at (b ++ c)) ≡ numbers n (drop at b)
-numbers-within at n b c h =
-    ap (numbers n) (drop-append-le at b c (omega arith)) ∙ numbers-front n (drop at b) c (omega (arith, length-drop at b))
-
 -- A table with bytes after it is read as the table alone, where more may follow.
 pub table-followed : (b : List ℕ) (t : Table) → read-table Whole b ≡ accepts t → (c : List ℕ)
     → read-table Front (b ++ c) ≡ accepts t
@@ -125,9 +115,15 @@ equations-torn : (l : ℕ) (b c : List ℕ) → check-equations l b ≡ Accepted
     → (length c ≡ length b → ⊥) → check-equations l c ≡ Refused R.Torn
 unfolding check-equations check-sized
 equations-torn l b c e same other =
-    let p = equations-passed l b e in
-    let bad = ne-eqb (length c) (equations-length (first-size b) (second-size b)) (λ q. other (q ∙ sym (p .long))) in
-    torn-by (sized c) _ _ (λ s. rw (same s .0, same s .1, p .few, bad))
+    let g = equations-passed l b e .sizes in
+    let bad = ne-eqb (length c) (equations-length (first-size b) (second-size b)) (λ q. other (q ∙ sym (g .long))) in
+    let few = le-leb (first-size b) most-equations (g .few) in
+    let short = le-leb (second-size b) most-tokens (g .short) in
+    torn-by (sized c) _ _ (λ s. rw (same s .0, same s .1, few, short, bad))
+
+equations-sized : (l : ℕ) (b : List ℕ) → check-equations l b ≡ Accepted → sized b ≡ true
+unfolding sized
+equations-sized l b e = le-leb 4 (length b) (omega (arith, equations-passed l b e .sizes .long))
 
 -- Equations cut short anywhere are torn.
 pub equations-cut : (l : ℕ) (b : List ℕ) (k : ℕ) → check-equations l b ≡ Accepted → k < length b
@@ -138,7 +134,7 @@ equations-cut l b k e h = equations-torn l b (take k b) e (cut-sizes b k) (λ q.
 pub equations-longer : (l : ℕ) (b : List ℕ) → check-equations l b ≡ Accepted → (y : ℕ) (c : List ℕ)
     → check-equations l (b ++ (y ∷ c)) ≡ Refused R.Torn
 equations-longer l b e y c =
-    equations-torn l b (b ++ (y ∷ c)) e (λ s. longer-sizes b (y ∷ c) (equations-passed l b e .sizes))
+    equations-torn l b (b ++ (y ∷ c)) e (λ s. longer-sizes b (y ∷ c) (equations-sized l b e))
     (λ q. omega (arith, length-append b (y ∷ c)))
 
 -- The form of no equations is accepted.

@@ -13,12 +13,12 @@ use Rattle.words.proofs.Words.{word-of-entry}
 use Rattle.tables.specs.Lists.{pairs, strings}
 use Rattle.tables.specs.Values.{clean, entry-at, all-clean}
 use Rattle.tables.proofs.Checking.{all-at, clean-is}
-use Rattle.lists.specs.Lists.{Holds}
+use Rattle.lists.specs.WorkingLists.{Holds}
 use Rattle.codec.specs.Numbers.{number-at}
 use Rattle.codec.proofs.Laws.{length-numbers}
-use Rattle.forms.specs.Tables.{cares, values, written-entries}
+use Rattle.forms.specs.TableForms.{cares, values, written-entries}
 use Rattle.forms.proofs.Reading.{entries-wide}
-use Rattle.forms.proofs.Walking.{row-number}
+use Rattle.forms.proofs.Rows.{row-number}
 
 -- ---- The strings of two rows
 

@@ -1,8 +1,10 @@
 pub mod Outcomes
-pub mod Walking
+pub mod Rows
+pub mod Cursors
+pub mod EachEquation
 pub mod Tests
 pub mod Reading
 pub mod Decoding
 pub mod Cutting
 pub mod Numbers
-pub mod Back
+pub mod ReadsBack

@@ -10,18 +10,19 @@ use Rattle.model.specs.Terms.{Term}
 use Rattle.tables.specs.declared.Refusal.{Refusal}
 use Rattle.tables.specs.declared.Refusal.the-variants as R
 use Rattle.tables.specs.declared.Answer.{Answer}
+use Rattle.tables.specs.declared.Answer.the-variants.{Refused}
 use Rattle.tables.specs.declared.Answered.{Answered}
 use Rattle.tables.specs.Refusals.{member, one-of, Numbered}
 use Rattle.tables.specs.Values.{good-width, all-clean}
 use Rattle.tables.proofs.Numbers.{within, one-of-more, refused-numbered, accepted-numbered, test-numbered, answered-numbered}
-use Rattle.terms.specs.Checks.{Outcome, reads, refuses, check-equation, most-tokens}
+use Rattle.terms.specs.Checks.{Outcome, reads, refuses, if-read, check-equation, most-tokens}
 use Rattle.terms.proofs.Checking.{equation-numbers}
 use Rattle.codec.specs.Numbers.{sum}
 use Rattle.forms.specs.declared.Extent.{Extent}
-use Rattle.forms.specs.Tables.{sized, first-size, second-size, table-length, fits, cares, values, read-entries}
-use Rattle.forms.specs.Tables.{read-sized, read-table}
-use Rattle.forms.specs.Equations.{Written, most-equations, equations-length, counts, equations-of, after-equation}
-use Rattle.forms.specs.Equations.{check-each, check-sized, check-equations}
+use Rattle.forms.specs.TableForms.{sized, first-size, second-size, table-length, fits, cares, values, read-entries}
+use Rattle.forms.specs.TableForms.{read-sized, read-table}
+use Rattle.forms.specs.EquationForms.{Written, most-equations, equations-length, counts, equations-of}
+use Rattle.forms.specs.EquationForms.{check-each, check-sized, check-equations}
 use Rattle.forms.proofs.Reading.{entries-grow}
 
 -- Reading a table refuses by 1, 2, 3 or 4, so never by 8.
@@ -46,9 +47,9 @@ read-numbers x b =
     (refused-numbered ns R.Torn tt)
 
 -- equation by equation
-after-numbers : (ns : List ℕ) (o : Outcome Term) (a : Answer) → ((r : Refusal) → o ≡ refuses r → T (one-of ns r)) → Numbered ns a
-    → Numbered ns (after-equation o a)
-unfolding after-equation
+after-numbers : (ns : List ℕ) (o : Outcome Term) (a : Answer) → ((r : Refusal) → o ≡ refuses r → T (one-of ns r))
+    → Numbered ns a → Numbered ns (if-read o Refused (λ u. a))
+unfolding if-read
 after-numbers ns (reads u) a f g = g
 after-numbers ns (refuses s) a f g = refused-numbered ns s (f s refl)
 

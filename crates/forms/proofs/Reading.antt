@@ -30,8 +30,8 @@ use Rattle.tables.specs.Lists.{strings, pairs}
 use Rattle.tables.specs.Values.{table-of, entries-of, accepts, refuses, made-or-full, good-width, GoodTable}
 use Rattle.tables.proofs.Values.{entries-of-table, table-of-good}
 use Rattle.forms.specs.declared.Extent.{Extent}
-use Rattle.forms.specs.Tables.{first-size, second-size, cares, values, written-entries, read-table}
-use Rattle.forms.specs.Tables.{Passed}
+use Rattle.forms.specs.TableForms.{first-size, second-size, cares, values, written-entries, read-table}
+use Rattle.forms.specs.TableForms.{Passed}
 use Rattle.forms.proofs.Tests.{entries-in, grown-table, reads-passed}
 
 -- ---- The entries that a form holds
@@ -41,6 +41,7 @@ unfolding Wide
 strings-wide l [] = tt
 strings-wide l (w ∷ ws) = (string-length l w, strings-wide l ws)
 
+-- The entries that are written have l positions.
 pub entries-wide : (l n : ℕ) (b : List ℕ) → Wide l (written-entries l n b)
 unfolding written-entries strings
 entries-wide l n b = strings-wide l (take n (pairs (cares n b) (values n b)))

@@ -4,7 +4,7 @@ use mathlib.Core.Bool.{Bool, true, false, _&&_, cond}
 use mathlib.Core.List.{List, []}
 use Prim.Native.Nat.{ℕ}
 use native.Mathlib.Omega.{arith}
-use borrow.Author.Tests.{eqb-true}
+use borrow.Author.Tests.{leb-true, eqb-true}
 use lib.Dec.{ltb, leb, eqb}
 use lib.ListN.{length}
 use Rattle.model.specs.Growth.{Entries, limit, grow-all}
@@ -17,11 +17,12 @@ use Rattle.terms.specs.Checks.{most-tokens}
 use Rattle.codec.specs.Numbers.{sum}
 use Rattle.tables.specs.Refusals.{answer-number}
 use Rattle.tables.specs.Values.{good-width, all-clean, zero-table, refuses, made-or-full}
+use Rattle.tables.proofs.Tests.{both-true}
 use Rattle.forms.specs.declared.Extent.{Extent}
-use Rattle.forms.specs.Tables.{sized, first-size, second-size, table-length, fits, cares, values, written-entries}
-use Rattle.forms.specs.Tables.{read-entries, read-sized, read-table, Passed}
-use Rattle.forms.specs.Equations.{most-equations, equations-length, counts, equations-of, check-each, check-sized}
-use Rattle.forms.specs.Equations.{check-equations}
+use Rattle.forms.specs.TableForms.{sized, first-size, second-size, table-length, fits, cares, values, written-entries}
+use Rattle.forms.specs.TableForms.{read-entries, read-sized, read-table, Passed}
+use Rattle.forms.specs.EquationForms.{most-equations, equations-length, counts, equations-in, check-each, check-sized}
+use Rattle.forms.specs.EquationForms.{check-equations, GoodSizes}
 
 -- where the other branch is not what came out, the test held
 pub held : {A : Type 0} (c : Bool) (x y a : A) → cond c x y ≡ a → (y ≡ a → ⊥) → (c ≡ true) × (x ≡ a)
@@ -62,13 +63,10 @@ reads-passed x b a late e =
 
 -- ---- Equations
 
--- The tests of equations, each passed.
+-- The tests of equations, all passed.
 pub record EquationsPassed (l : ℕ) (b : List ℕ) : Type 0 where
-  pub sizes : sized b ≡ true
-  pub few : (leb (first-size b) most-equations && leb (second-size b) most-tokens) ≡ true
-  pub long : length b ≡ equations-length (first-size b) (second-size b)
-  pub total : sum (counts (first-size b) b) ≡ second-size b
-  pub each : check-each l (equations-of (first-size b) (second-size b) b) ≡ Accepted
+  pub sizes : GoodSizes b
+  pub each : check-each l (equations-in b) ≡ Accepted
 
 -- Equations that are accepted have passed their tests.
 pub equations-passed : (l : ℕ) (b : List ℕ) → check-equations l b ≡ Accepted → EquationsPassed l b
@@ -80,10 +78,11 @@ equations-passed l b e =
     let m = held (leb (first-size b) most-equations && leb (second-size b) most-tokens) _ _ Accepted (s .1) (clash R.Long) in
     let n = held (eqb (length b) (equations-length (first-size b) (second-size b))) _ _ Accepted (m .1) (clash R.Torn) in
     let t = held (eqb (sum (counts (first-size b) b)) (second-size b)) _ _ Accepted (n .1) (clash R.Term) in
-    record {
-      sizes = s .0;
-      few = m .0;
-      long = eqb-true (length b) _ (n .0);
-      total = eqb-true (sum (counts (first-size b) b)) _ (t .0);
-      each = t .1;
-    }
+    let most = both-true (leb (first-size b) most-equations) (leb (second-size b) most-tokens) (m .0) in
+    let sizes : GoodSizes b = record {
+      few = leb-true (first-size b) most-equations (most .0);
+      short = leb-true (second-size b) most-tokens (most .1);
+      long = eqb-true (length b) (equations-length (first-size b) (second-size b)) (n .0);
+      whole = eqb-true (sum (counts (first-size b) b)) (second-size b) (t .0);
+    } in
+    record { sizes = sizes; each = t .1 }

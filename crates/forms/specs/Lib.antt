@@ -1,2 +1,2 @@
-pub mod Tables
-pub mod Equations
+pub mod TableForms
+pub mod EquationForms

@@ -1,25 +1,31 @@
 // The written forms of tables and equations: 16-bit numbers, low byte first. Inner: not a public call.
+pub mod equations; // the walk over the equations of a form, and their checks
+
 use tables::Answer;
 use tables::Answered;
 use tables::Refusal;
 use tables::Table;
-use terms::Checked;
 use words::Entry;
 ghost use mathlib.Core.Path.{_≡_};
 ghost use mathlib.Core.Bool.{true};
-ghost use Prim.Native.Nat.{_+_, _*_, _≤_};
+ghost use Prim.Native.Nat.{_≤_};
 ghost use lib.ListN.{length};
 ghost use Rattle.tables.specs.Values.{good-width, all-clean};
-ghost use Rattle.lists.specs.Lists.{Holds};
-ghost use Rattle.codec.specs.Numbers.{sum};
-ghost use Rattle.forms.specs.Tables.{fits, table-length, cares, values, written-entries, read-entries, read-table};
-ghost use Rattle.forms.specs.Tables.{write-answer, table-form, written};
-ghost use Rattle.forms.specs.Equations.{equations-length, counts, equations-of, check-each, check-equations};
+ghost use Rattle.lists.specs.WorkingLists.{Holds};
+ghost use Rattle.forms.specs.TableForms.{fits, table-length, cares, values, written-entries, read-entries, read-table};
+ghost use Rattle.forms.specs.TableForms.{write-answer, table-form, written};
 
 // Where a form ends: it is all the bytes, or more may follow it.
 pub enum Extent {
     Whole,
     Front,
+}
+
+// A place among the e equations of a form: k equations and their `at` tokens stand before it.
+pub struct Cursor {
+    pub e: usize,
+    pub k: usize,
+    pub at: usize,
 }
 
 // May a form of that length be read from so many bytes?
@@ -100,58 +106,11 @@ pub fn write_table(t: Table, out: &mut [u8]) -> Answer
             if out.len() < 4 + 4 * n {
                 return Answer::Refused(Refusal::Narrow);
             }
-            codec::put_number(out, 0, t.l);
-            codec::put_number(out, 2, n as u32);
-            codec::put_words(out, 4, &t.care, n);
-            codec::put_words(out, 4 + 2 * n, &t.value, n);
+            codec::write_number(out, 0, t.l);
+            codec::write_number(out, 2, n as u32);
+            codec::write_words(out, 4, &t.care, n);
+            codec::write_words(out, 4 + 2 * n, &t.value, n);
             Answer::Accepted
         }
     }
-}
-
-// Equation by equation: the left variable (5), tokens in order (5), whole term (6).
-fn check_each(l: u32, e: usize, m: usize, b: &[u8]) -> Answer
-    requires { ⌜ (l ≤ 32) × (e ≤ 64) × (m ≤ 1024) × (equations-length e m ≡ length (now b)) × (sum (counts e (now b)) ≡ m) ⌝ }
-    ensures { λ r. ⌜ r ≡ check-each l (equations-of e m (now (b .entry))) ⌝ }
-{
-    let row = codec::tokens_at(b, 4 + 4 * e, m);
-    let tokens: &[u16] = &row;
-    let mut at = 0;
-    let mut k = 0;
-    while k < e {
-        let x = codec::number_at(b, 4 + 2 * k) as u32;
-        let n = codec::number_at(b, 4 + 2 * e + 2 * k) as usize;
-        match terms::check_equation(l, x, &tokens[at..at + n]) {
-            Checked::Refused(r) => {
-                return Answer::Refused(r);
-            }
-            Checked::Variables(set) => {
-                at = at + n;
-            }
-        }
-        k += 1;
-    }
-    Answer::Accepted
-}
-
-// The checks of equations: sizes present (1), 7, length (1), sum (6), then equation by equation.
-pub fn check_equations(l: u32, b: &[u8]) -> Answer
-    requires { ⌜ l ≤ 32 ⌝ }
-    ensures { λ r. ⌜ r ≡ check-equations l (now (b .entry)) ⌝ }
-{
-    if b.len() < 4 {
-        return Answer::Refused(Refusal::Torn);
-    }
-    let e = codec::number_at(b, 0) as usize;
-    let m = codec::number_at(b, 2) as usize;
-    if !((e <= 64) & (m <= 1024)) {
-        return Answer::Refused(Refusal::Long);
-    }
-    if b.len() != 4 + 4 * e + 2 * m {
-        return Answer::Refused(Refusal::Torn);
-    }
-    if codec::sum_at(b, 4 + 2 * e, e) != m {
-        return Answer::Refused(Refusal::Term);
-    }
-    check_each(l, e, m, b)
 }

@@ -16,7 +16,7 @@ use Rattle.model.specs.Growth.{Entries, widen-grow, convert-one}
 use Rattle.words.specs.Words.{set, set-word}
 use Rattle.words.proofs.Codec.{nonzero-word, set-length, set-word-set}
 use Rattle.tables.proofs.Tests.{below-full, both-true}
-use Rattle.lists.specs.Lists.{all-below}
+use Rattle.lists.specs.WorkingLists.{all-below}
 
 -- ---- No bit above l
 

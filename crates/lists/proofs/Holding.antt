@@ -18,7 +18,7 @@ use Rattle.words.specs.Words.{word}
 use Rattle.tables.proofs.Arrays.{wide-at}
 use Rattle.lists.specs.declared.Grown.{Grown}
 use Rattle.lists.specs.declared.Grown.the-variants.{Count, Full}
-use Rattle.lists.specs.Lists.{Holds, Within, Makes, makes, stops}
+use Rattle.lists.specs.WorkingLists.{Holds, Within, Makes, makes, stops}
 
 -- each string of the list has l positions
 pub holds-length : {l : ℕ} {list : List ℕ} {n : ℕ} {τ : Entries} → Holds l list n τ → (i : ℕ) → i < n

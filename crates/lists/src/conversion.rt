@@ -9,7 +9,7 @@ ghost use lib.ListN.{length};
 ghost use Rattle.model.specs.Groups.{Bits};
 ghost use Rattle.model.specs.Growth.{Entries, convert-one as convert-one-list, convert as convert-list};
 ghost use Rattle.words.specs.Words.{set, set-word};
-ghost use Rattle.lists.specs.Lists.{Holds, Within, Makes, all-below as all-below-list};
+ghost use Rattle.lists.specs.WorkingLists.{Holds, Within, Makes, all-below as all-below-list};
 
 // Widens and grows the string of 0 and 1 with the word w; a zero string is skipped.
 fn convert_one(list: &mut [u64; 256], n: usize, l: u32, w: u32, near: &mut [u64; 256]) -> Grown

@@ -1,23 +1,30 @@
 // Growing a working list by rows whose strings come again and again. Inner: not a public call.
-// A filter holds, in each slot, a string by which growing changes nothing. A string that was grown is such from then on, as an
-// entry goes only where one is appended that subsumes it. So one filter serves a whole cross or close.
+// A filter holds, in each slot, a string that the list absorbs: growing by it changes nothing. A string that was grown is
+// absorbed from then on, as an entry goes only where one is appended that subsumes it. So one filter serves a whole cross or
+// close.
 use crate::Grown;
 ghost use mathlib.Core.Path.{_≡_};
 ghost use mathlib.Core.Option.{some};
 ghost use Prim.Native.Nat.{_≤_, _<_};
 ghost use Rattle.model.specs.Growth.{Entries, grow-all};
-ghost use Rattle.lists.specs.Lists.{Holds, Within, Makes};
+ghost use Rattle.lists.specs.WorkingLists.{Holds, Within, Makes};
 ghost use Rattle.lists.specs.Filters.{Filters, Seen, slots};
+
+// A filter has so many slots.
+pub const SLOTS: usize = 1024;
+
+// 2^32 divided by the golden ratio: the upper bits of a product with it are spread well (Fibonacci hashing).
+const FACTOR: u64 = 2654435769;
 
 // The slot of a string. Which one it is, is a matter of speed alone.
 fn slot(y: u64) -> usize
     ensures { λ r. ⌜ r < slots ⌝ }
 {
-    (((((y ^ (y >> 17)) % 4294967296) * 2654435769) >> 22) % 1024) as usize
+    ((((y ^ (y >> 17)) % words::HALF) * FACTOR) >> 22) as usize % SLOTS
 }
 
 // An index from j up to m with only strings before it that stand in the filter.
-fn unseen(row: &[u64; 256], j: usize, m: usize, seen: &[u64; 1024]) -> usize
+fn unseen(row: &[u64; 256], j: usize, m: usize, seen: &[u64; SLOTS]) -> usize
     requires { ⌜ (j ≤ m) × (m ≤ 256) ⌝ }
     ensures { λ r. ⌜ (j ≤ r) × (r ≤ m) × Seen (now (row .entry)) (now (seen .entry)) j r ⌝ }
 {
@@ -34,14 +41,14 @@ fn unseen(row: &[u64; 256], j: usize, m: usize, seen: &[u64; 1024]) -> usize
 }
 
 // Grows the list by each of the m strings of a row, in order, up to the first that is full. Those that stand in the filter
-// are passed over, the others stand in it afterwards.
+// are skipped, the others stand in it afterwards.
 pub fn grow_unseen(
     list: &mut [u64; 256],
     n: usize,
     l: u32,
     row: &[u64; 256],
     m: usize,
-    seen: &mut [u64; 1024],
+    seen: &mut [u64; SLOTS],
 ) -> Grown
     requires { ⌜ (n ≤ 256) × (l ≤ 32) × (m ≤ 256) ⌝ }
     ensures within { λ r. ⌜ Within r ⌝ }

@@ -10,7 +10,7 @@ ghost use Rattle.model.specs.Growth.{Entries, subsumed as subsumed-list, remove
 ghost use Rattle.words.specs.Words.{subsumes-word};
 ghost use Rattle.tables.specs.Lists.{some-from};
 ghost use Rattle.tables.specs.Values.{all-from};
-ghost use Rattle.lists.specs.Lists.{Holds, OfString, Within, Makes, Free};
+ghost use Rattle.lists.specs.WorkingLists.{Holds, OfString, Within, Makes, Free};
 
 // Does one of the strings from j up to end subsume y?
 fn some_subsumes(list: &[u64; 256], j: usize, end: usize, y: u64) -> bool
@@ -160,9 +160,9 @@ fn lesser(a: u64, b: u64) -> u64
     a
 }
 
-// Grows the list by each of the m strings of a row, in order, up to the first that is full. A string once grown changes
-// nothing when it comes again, nor does what it subsumes; `idle` is the widest such string so far, and what it subsumes is
-// passed over.
+// Grows the list by each of the m strings of a row, in order, up to the first that is full. A string once grown is absorbed:
+// it changes nothing when it comes again, nor does what it subsumes. `absorbed` is the widest such string so far; what it
+// subsumes is skipped.
 pub fn grow_each(list: &mut [u64; 256], n: usize, l: u32, row: &[u64; 256], m: usize) -> Grown
     requires { ⌜ (n ≤ 256) × (l ≤ 32) × (m ≤ 256) ⌝ }
     ensures within { λ r. ⌜ Within r ⌝ }
@@ -171,13 +171,13 @@ pub fn grow_each(list: &mut [u64; 256], n: usize, l: u32, row: &[u64; 256], m: u
         → Makes l (now (list .exit)) r (grow-all τ ρ))
         ⌝ }
 {
-    let mut idle = words::zero(l);
+    let mut absorbed = words::zero(l);
     let mut k = n;
     let mut j = 0;
     while j < m {
         let y = row[j];
         j += 1;
-        if !words::subsumes(idle, y) {
+        if !words::subsumes(absorbed, y) {
             match grow(list, k, l, y) {
                 Grown::Count(c) => {
                     k = c;
@@ -186,7 +186,7 @@ pub fn grow_each(list: &mut [u64; 256], n: usize, l: u32, row: &[u64; 256], m: u
                     return Grown::Full;
                 }
             }
-            idle = lesser(idle, y);
+            absorbed = lesser(absorbed, y);
         }
     }
     Grown::Count(k)

@@ -11,7 +11,7 @@ ghost use Prim.Native.Nat.{ℕ, _≤_};
 ghost use Rattle.model.specs.Growth.{Entries};
 ghost use Rattle.tables.specs.Lists.{Stores};
 ghost use Rattle.tables.specs.Values.{table-of, made-or-full};
-ghost use Rattle.lists.specs.Lists.{Holds, Within, Makes};
+ghost use Rattle.lists.specs.WorkingLists.{Holds, Within, Makes};
 
 // The list of the first n care and value words of two arrays.
 pub fn load<'a>(care: &'a [u32; 256], value: &'a [u32; 256], n: usize, list: &mut [u64; 256])

@@ -6,7 +6,7 @@ ghost use mathlib.Core.Path.{_≡_};
 ghost use Prim.Native.Nat.{ℕ, _≤_};
 ghost use Rattle.model.specs.Growth.{widen as widen-list, widen-grow as widen-grow-list};
 ghost use Rattle.words.specs.Words.{word, set-word};
-ghost use Rattle.lists.specs.Lists.{Holds, OfString, Within, Makes, near-list, open-set as open-set-of};
+ghost use Rattle.lists.specs.WorkingLists.{Holds, OfString, Within, Makes, near-list, open-set as open-set-of};
 
 // The entries that lack at most one position of y, in order. Their number.
 fn near_row(list: &[u64; 256], n: usize, y: u64, near: &mut [u64; 256]) -> usize

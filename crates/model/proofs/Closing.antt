@@ -78,8 +78,8 @@ Cover c g = T (nonzero g) × T (covers c g)
 
 module _ (l : ℕ) (R : Entries) (c : Trits) (shape : Shape Unit l R) (len : length c ≡ l) (P : Groups)
     (exact : (g : Bits) → In R g ↔ Ors P g) where
-  abbrev joined : List Trits
-  joined = ors R (c ∷ [])
+  abbrev crossed : List Trits
+  crossed = ors R (c ∷ [])
 
   one-wide : Wide l (c ∷ [])
   unfolding Wide
@@ -120,16 +120,16 @@ module _ (l : ℕ) (R : Entries) (c : Trits) (shape : Shape Unit l R) (len : len
         exact =
             λ g. (λ h. unsplit P (Cover c) closed (there ρ (made .1) g h), λ k. back ρ (made .1) (split P (Cover c) closed k));
       })
-      (grow-all-made l R (joined ++ (c ∷ [])) shape
-      (wide-append l joined (c ∷ []) (ors-wide l R (c ∷ []) (shape .wide) one-wide) one-wide))
+      (grow-all-made l R (crossed ++ (c ∷ [])) shape
+      (wide-append l crossed (c ∷ []) (ors-wide l R (c ∷ []) (shape .wide) one-wide) one-wide))
     where
       closed : (g h : Bits) → Cover c g → Cover c h → Cover c (or g h)
       closed g h p q = (nonzero-or g h (p .0), cover-closed c g h (p .1) (q .1))
 
-      candidates : (g : Bits) → covered (joined ++ (c ∷ [])) g ≡ (covered joined g || covered (c ∷ []) g)
-      candidates g = covered-append joined (c ∷ []) g
+      candidates : (g : Bits) → covered (crossed ++ (c ∷ [])) g ≡ (covered crossed g || covered (c ∷ []) g)
+      candidates g = covered-append crossed (c ∷ []) g
 
-      there : (ρ : Entries) → GrownBy R (joined ++ (c ∷ [])) ρ → (g : Bits) → In ρ g → Split P (Cover c) g
+      there : (ρ : Entries) → GrownBy R (crossed ++ (c ∷ [])) ρ → (g : Bits) → In ρ g → Split P (Cover c) g
       there ρ grown g h =
           ⊎-elim
           (λ k. old (exact g .0 (h .0, k)))
@@ -137,25 +137,27 @@ module _ (l : ℕ) (R : Entries) (c : Trits) (shape : Shape Unit l R) (len : len
           ⊎-elim
           (λ j. of-both g (h .0) (ors-split R (c ∷ []) g j))
           (λ j. new (h .0, in-one g j))
-          (or-cases (covered joined g) (covered (c ∷ []) g) (rw candidates at k)))
-          (or-cases (covered R g) (covered (joined ++ (c ∷ [])) g) (grown .within g (h .1)))
+          (or-cases (covered crossed g) (covered (c ∷ []) g) (rw candidates at k)))
+          (or-cases (covered R g) (covered (crossed ++ (c ∷ [])) g) (grown .within g (h .1)))
 
-      put : (ρ : Entries) → GrownBy R (joined ++ (c ∷ [])) ρ → (g : Bits) → T (nonzero g)
-          → T (covered R g || (covered joined g || covered (c ∷ []) g)) → In ρ g
-      put ρ grown g n h = (n, rw (grown .exact g n, candidates g) h)
+      in-grown : (ρ : Entries) → GrownBy R (crossed ++ (c ∷ [])) ρ → (g : Bits) → T (nonzero g)
+          → T (covered R g || (covered crossed g || covered (c ∷ []) g)) → In ρ g
+      in-grown ρ grown g n h = (n, rw (grown .exact g n, candidates g) h)
 
-      back : (ρ : Entries) → GrownBy R (joined ++ (c ∷ [])) ρ → {g : Bits} → Split P (Cover c) g → In ρ g
+      back : (ρ : Entries) → GrownBy R (crossed ++ (c ∷ [])) ρ → {g : Bits} → Split P (Cover c) g → In ρ g
       back ρ grown (old {g} k) =
-          let m = exact g .1 k in put ρ grown g (m .0) (or-left (covered R g) (covered joined g || covered (c ∷ []) g) (m .1))
+          let m = exact g .1 k in
+          in-grown ρ grown g (m .0) (or-left (covered R g) (covered crossed g || covered (c ∷ []) g) (m .1))
       back ρ grown (new {g} q) =
-          put ρ grown g (q .0)
-          (or-right (covered R g) (covered joined g || covered (c ∷ []) g)
-          (or-right (covered joined g) (covered (c ∷ []) g) (one-in g (q .1))))
+          in-grown ρ grown g (q .0)
+          (or-right (covered R g) (covered crossed g || covered (c ∷ []) g)
+          (or-right (covered crossed g) (covered (c ∷ []) g) (one-in g (q .1))))
       back ρ grown (mixed {g} {h} k q) =
           let m = exact g .1 k in
-          put ρ grown (or g h) (nonzero-or g h (m .0))
-          (or-right (covered R (or g h)) (covered joined (or g h) || covered (c ∷ []) (or g h))
-          (or-left (covered joined (or g h)) (covered (c ∷ []) (or g h)) (ors-covered R (c ∷ []) g h (m .1) (one-in h (q .1)))))
+          in-grown ρ grown (or g h) (nonzero-or g h (m .0))
+          (or-right (covered R (or g h)) (covered crossed (or g h) || covered (c ∷ []) (or g h))
+          (or-left (covered crossed (or g h)) (covered (c ∷ []) (or g h))
+          (ors-covered R (c ∷ []) g h (m .1) (one-in h (q .1)))))
 
 close-from-exact : (l : ℕ) (cs R : Entries) (P : Groups) → Stands l (Ors P) R → Wide l cs
     → Given (Stands l (Ors (λ h. P h ⊎ In cs h))) (fold close-with R cs)

@@ -47,7 +47,7 @@ module _ {X : Type 0} where
   each-to f [] e = tt
   each-to f (x ∷ xs) e = (f x (e .0), each-to f xs (e .1))
 
-  -- Two lists put together.
+  -- Two lists appended.
   pub each-append : (J : X → Type 0) (xs ys : List X) → Each J xs → Each J ys → Each J (xs ++ ys)
   unfolding Each
   each-append J [] ys d e = e

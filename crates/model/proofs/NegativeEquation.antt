@@ -129,7 +129,7 @@ module _ (l : ℕ) (τ : Entries) (mx mt : Bits) (fits-x : length mx ≡ l) (fit
   pairs-length (one p) = pair-length p
   pairs-length (more {g} {h} p k) = or-length g h l (pair-length p) (pairs-length k)
 
-  -- what neither the irrelevant groups nor the joined ones leave out
+  -- what neither the irrelevant groups nor the closed cross leave out
   module _ (C R K ρ : Entries) (c : GrownBy τ (ones (or mx mt)) C) (r : Stands l (Ors Pairs) R) (k : Changed l R K)
       (made : GrownBy [] (meets-of C K) ρ) where
     result-covered : (g : Bits) → Group l g → covered ρ g ≡ ((covered τ g || (meets mx g || meets mt g)) && not (covered R g))

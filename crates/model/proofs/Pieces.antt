@@ -230,10 +230,10 @@ pieces-antichain (t ∷ y) (u ∷ v) m =
     (go (not (fixed-digit t) && fixed-digit u) (λ b. first b (pieces y v) (pieces-are y v (search (tests))))
     (front (pieces y v) (pieces-antichain y v (search (tests)))))
   where
-    put : Trits → Trits
-    put z = t ∷ z
+    with-t : Trits → Trits
+    with-t z = t ∷ z
 
-    front-apart : (s : Trits) (ρ : Entries) → Apart s ρ → Apart (t ∷ s) (map put ρ)
+    front-apart : (s : Trits) (ρ : Entries) → Apart s ρ → Apart (t ∷ s) (map with-t ρ)
     front-apart s [] a = tt
     front-apart s (r ∷ ρ) a = (
       (
@@ -243,7 +243,7 @@ pieces-antichain (t ∷ y) (u ∷ v) m =
       front-apart s ρ (a .1),
     )
 
-    front : (ρ : Entries) → Antichain ρ → Antichain (map put ρ)
+    front : (ρ : Entries) → Antichain ρ → Antichain (map with-t ρ)
     front [] a = tt
     front (s ∷ ρ) a = (front-apart s ρ (a .0), front ρ (a .1))
 
@@ -254,7 +254,7 @@ pieces-antichain (t ∷ y) (u ∷ v) m =
     fixed t* t1 f h = h
     fixed t* t* f h = f
 
-    first : T (not (fixed-digit t) && fixed-digit u) → (ρ : Entries) → Each (Piece y v) ρ → Apart (flip u ∷ y) (map put ρ)
+    first : T (not (fixed-digit t) && fixed-digit u) → (ρ : Entries) → Each (Piece y v) ρ → Apart (flip u ∷ y) (map with-t ρ)
     first f [] e = tt
     first f (z ∷ ρ) e = (
       (
@@ -264,8 +264,8 @@ pieces-antichain (t ∷ y) (u ∷ v) m =
       first f ρ (e .1),
     )
 
-    go : (b : Bool) → (T b → Apart (flip u ∷ y) (map put (pieces y v))) → Antichain (map put (pieces y v))
-        → Antichain (cond b ((flip u ∷ y) ∷ map put (pieces y v)) (map put (pieces y v)))
+    go : (b : Bool) → (T b → Apart (flip u ∷ y) (map with-t (pieces y v))) → Antichain (map with-t (pieces y v))
+        → Antichain (cond b ((flip u ∷ y) ∷ map with-t (pieces y v)) (map with-t (pieces y v)))
     go true f a = (f tt, a)
     go false f a = a
 

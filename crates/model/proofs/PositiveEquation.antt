@@ -108,7 +108,7 @@ module _ (l : ℕ) (τ : Entries) (w : Wide l τ) (mx mt : Bits) (fits-x : lengt
     pair-crossed A B (λ a h. (h .0 .0, x .back a (h .0) (h .1))) (λ b h. (h .0 .0, t .back b (h .0) (h .1))) g,
   )
 
-  -- the irrelevant groups and the joined ones together
+  -- the irrelevant groups and the closed cross together
   together : (I K : Entries) → Stands l (λ g. In τ g × ¬ (T (meets (or mx mt) g))) I → Stands l (Ors Pairs) K → (ρ : Entries)
       → GrownBy I K ρ
       → (g : Bits) → In ρ g ↔ Equated HasX HasT (In τ) g

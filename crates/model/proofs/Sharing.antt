@@ -116,8 +116,8 @@ module _ (S : Groups) (θ : Bindings) (x : ℕ) (t : Term) (σ : Substitution) (
   like : {p q : Term → Bool} → ((u : Term) → p u ≡ q u) → Linked (map p θ) → Linked (map q θ)
   like e k = subst (λ (p : Term → Bool). Linked (map p θ)) (fun-ext e) k
 
-  joined : (p q : Term → Bool) → Pairs (map p θ) → Linked (map q θ) → Linked (map (λ u. p u || q u) θ)
-  joined p q h k = subst Linked (or-map p q θ) (more h k)
+  linked-more : (p q : Term → Bool) → Pairs (map p θ) → Linked (map q θ) → Linked (map (λ u. p u || q u) θ)
+  linked-more p q h k = subst Linked (or-map p q θ) (more h k)
 
   -- ---- A variable w after σ: the "or" over the variables of both sides whose terms bring w
 
@@ -133,10 +133,10 @@ module _ (S : Groups) (θ : Bindings) (x : ℕ) (t : Term) (σ : Substitution) (
     add v vs false s k = k
     add v vs true (inl l) k =
         like (λ u. absorb-left (occurs v₁ u) (occurs v₂ u) (occurs v u) (carried vs u))
-        (joined (λ u. occurs v u || occurs v₂ u) (λ u. both u || carried vs u) (pair v v₂ l h₂) k)
+        (linked-more (λ u. occurs v u || occurs v₂ u) (λ u. both u || carried vs u) (pair v v₂ l h₂) k)
     add v vs true (inr r) k =
         like (λ u. absorb-right (occurs v₁ u) (occurs v₂ u) (occurs v u) (carried vs u))
-        (joined (λ u. occurs v₁ u || occurs v u) (λ u. both u || carried vs u) (pair v₁ v h₁ r) k)
+        (linked-more (λ u. occurs v₁ u || occurs v u) (λ u. both u || carried vs u) (pair v₁ v h₁ r) k)
 
     gather : (vs : List ℕ) → ((v : ℕ) → T (any (eqb v) vs) → T (occurs v left || occurs v right))
         → Linked (map (λ u. both u || carried vs u) θ)

@@ -189,6 +189,7 @@ module _ {A : Type 0} where
 unfoldable pub ones : Bits → List Trits
 ones m = rising (λ i. getD m i false) (one-at (length m)) 0 (length m)
 
--- For each position rising where y is `*` and v is fixed: y with the opposite of v there.
+-- What is left of y without v (in the field: the sharp operation): for each position rising where y is `*` and v is fixed, y
+-- with the opposite of v there.
 unfoldable pub pieces : Trits → Trits → List Trits
 pieces y v = rising (λ i. not (fixed i y) && fixed i v) (λ i. opposed i v y) 0 (length y)

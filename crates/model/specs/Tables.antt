@@ -105,8 +105,8 @@ positive-equation mx mt τ = do
   K ← close C
   grow-all I K
 
--- Equation, negative: P and Q hold what A and B leave out, C what the irrelevant groups leave out, K what the joined ones
--- leave out.
+-- Equation, negative: P and Q hold what A and B leave out, C what the irrelevant groups leave out, K what the closed
+-- cross leaves out.
 unfoldable pub negative-equation : ℕ → Bits → Bits → Entries → Option Entries
 negative-equation l mx mt τ = do
   P ← grow τ (zeros mx)

@@ -13,27 +13,38 @@ unfoldable pub Tokens : List ℕ → Type 0
 Tokens [] = Unit {0}
 Tokens (t ∷ ts) = (t < 65536) × Tokens ts
 
+-- The first token with the top bit 1.
+abbrev pub first-head : ℕ
+first-head = 32768
+
 -- Top bit 0: a variable.
 abbrev pub is-variable : ℕ → Bool
-is-variable t = ltb t 32768
+is-variable t = ltb t first-head
 
 -- The variable number is 1 to l.
 abbrev pub named : ℕ → ℕ → Bool
 named l t = ltb 0 t && leb t l
 
+-- The arities that bits 0 to 3 can say, and the symbols that bits 4 to 14 can.
+abbrev pub arities : ℕ
+arities = 16
+
+abbrev pub symbols : ℕ
+symbols = 2048
+
 -- Top bit 1: a head, arity in bits 0 to 3.
 abbrev pub arity-of : ℕ → ℕ
-arity-of t = t % 16
+arity-of t = t % arities
 
 -- And its symbol in bits 4 to 14.
 abbrev pub symbol-of : ℕ → ℕ
-symbol-of t = t / 16 % 2048
+symbol-of t = t / arities % symbols
 
 -- A term can be written as tokens: variable numbers from 1 to l, symbols of 11 bits, at most 15 arguments.
 unfoldable mutual
   pub Writable : ℕ → Term → Type 0
-  Writable l (var n) = (n < 32768) × T (named l n)
-  Writable l (head f ts) = (f < 2048) × (arity ts < 16) × WritableRow l ts
+  Writable l (var n) = (n < first-head) × T (named l n)
+  Writable l (head f ts) = (f < symbols) × (arity ts < arities) × WritableRow l ts
 
   pub WritableRow : ℕ → Terms → Type 0
   WritableRow l nil = Unit {0}
@@ -43,13 +54,13 @@ unfoldable mutual
 unfoldable mutual
   pub tokens : Term → List ℕ
   tokens (var n) = n ∷ []
-  tokens (head f ts) = (32768 + f * 16 + arity ts) ∷ tokens-row ts
+  tokens (head f ts) = (first-head + f * arities + arity ts) ∷ tokens-row ts
 
   pub tokens-row : Terms → List ℕ
   tokens-row nil = []
   tokens-row (cons t ts) = tokens t ++ tokens-row ts
 
--- What was read, and how many tokens it took.
+-- What was read, and how many tokens it used.
 pub record Read (A : Type 0) : Type 0 where
   pub value : A
   pub used : ℕ

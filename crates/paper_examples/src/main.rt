@@ -1,6 +1,7 @@
 // A test program: the final results of Examples 2.6 to 4.6 of 002, compared as sets of groups (01, "Marked for proof").
 // Each result is computed by the public calls on table values, and its groups are listed. The set that the paper prints is
-// entered as the paper prints it, and asked to be equal in groups.
+// entered as the paper prints it, and asked to be equal in groups. What is proved is that the program is safe and ends; what
+// it prints is held to its file `stdout`.
 //
 // All the paper's final results are right under 01's rules. What differs, and is not compared:
 // - Definition 3.5 as printed makes 0 with `*` a 1; Example 3.8 and 01 make it `*`. Only so are 1010 and 1110 in the result
@@ -10,32 +11,21 @@
 // - Steps (ii) and (iii) of Example 4.4 are misprinted: the complement of {110*, 101*} is {0***, 100*, 111*}, and that of
 //   its closure {0***, 100*}. The result (v) is right: it has the groups of Example 3.8, which starts from the same groups.
 use libc::STDOUT_FILENO;
+use operations::Side;
 use questions::Reply;
-use sharing::Side;
 use tables::Answer;
 use tables::Answered;
 use tables::Refusal;
 use tables::Table;
 use words::Entry;
 ghost use mathlib.Core.Path.{_≡_};
-ghost use mathlib.Core.List.{[], _∷_, _++_};
-ghost use Prim.Native.Nat.{_+_, _-_, _^_, _≤_, _<_};
-ghost use lib.ListN.{length, replicate};
-ghost use Rattle.model.specs.Growth.{covered};
-ghost use Rattle.model.specs.Questions.{stands-for};
-ghost use Rattle.words.specs.Words.{care-bit, value-bit, entry, set};
-ghost use Rattle.tables.specs.Values.{GoodTable, entries-of, table-of};
-ghost use Rattle.sharing.specs.Calls.{side-of, convert-call, equation-call, projection-call};
-ghost use Rattle.questions.specs.Replies.{replies};
-ghost use Rattle.paper_examples.specs.Members.{covers-call, opposite-reply};
-ghost use Rattle.paper_examples.specs.Texts.{trit, string-at, strings-in, words-in, binary};
+ghost use Prim.Native.Nat.{_+_, _≤_, _<_};
+ghost use lib.ListN.{length};
 
 // ---- Sets of strings, read from text as the paper prints them
 
 // 1 where the byte is a digit, 0 where it is `*`.
-fn care_bit(b: u8) -> u32
-    ensures { λ r. ⌜ r ≡ care-bit (trit b) ⌝ }
-{
+fn care_bit(b: u8) -> u32 {
     if b == b'*' {
         return 0;
     }
@@ -43,9 +33,7 @@ fn care_bit(b: u8) -> u32
 }
 
 // 1 where the byte is the digit 1.
-fn value_bit(b: u8) -> u32
-    ensures { λ r. ⌜ r ≡ value-bit (trit b) ⌝ }
-{
+fn value_bit(b: u8) -> u32 {
     if b == b'1' {
         return 1;
     }
@@ -55,7 +43,6 @@ fn value_bit(b: u8) -> u32
 // The string of l positions that begins at an index of the text. Its last position is the highest bit, so it is read first.
 fn read_string(text: &[u8], at: usize, l: u32) -> Entry
     requires { ⌜ (l ≤ 16) × (at + l ≤ length (now text)) ⌝ }
-    ensures { λ r. ⌜ r ≡ entry (string-at l (now (text .entry)) at) ⌝ }
 {
     let mut care = 0u32;
     let mut value = 0u32;
@@ -63,8 +50,8 @@ fn read_string(text: &[u8], at: usize, l: u32) -> Entry
     while 0 < i {
         i -= 1;
         let b = text[at + i];
-        care = care * 2 + care_bit(b);
-        value = value * 2 + value_bit(b);
+        care = (care << 1) | care_bit(b);
+        value = (value << 1) | value_bit(b);
     }
     Entry {
         care: care,
@@ -75,7 +62,7 @@ fn read_string(text: &[u8], at: usize, l: u32) -> Entry
 // The table of the strings of a text, which stand apart by a comma and a blank.
 fn read_table(l: u32, text: &[u8]) -> Table
     requires { ⌜ (0 < l) × (l ≤ 16) × (length (now text) ≤ 254) ⌝ }
-    ensures { λ r. ⌜ r ≡ table-of l (strings-in l (now (text .entry))) ⌝ }
+    ensures { λ r. ⌜ (r .n ≤ 256) × (length (r .value) ≡ 256) ⌝ }
 {
     let step = (l as usize) + 2;
     let n = (text.len() + 2) / step;
@@ -99,27 +86,21 @@ fn read_table(l: u32, text: &[u8]) -> Table
 // The groups of a text, converted.
 fn converted(l: u32, text: &[u8]) -> Answered
     requires { ⌜ (0 < l) × (l ≤ 16) × (length (now text) ≤ 254) ⌝ }
-    ensures { λ r. ⌜ r ≡ convert-call l (words-in l (now (text .entry))) ⌝ }
 {
     let t = read_table(l, text);
     let n = t.n;
     let words = t.value;
-    sharing::convert(l, &words[..n])
+    operations::convert(l, &words[..n])
 }
 
 // ---- The groups of a table
 
 // Does an entry of the table cover the group g? It does exactly where the positive join with g alone changes no group.
-fn covers(t: Table, g: u32) -> Reply
-    ensures call { λ r. ⌜ r ≡ covers-call t g ⌝ }
-    ensures exact { λ r. ⌜
-        (GoodTable t → t .n < 256 → 0 < g → g < 2 ^ (t .l) → r ≡ replies (covered (entries-of t) (set (t .l) g)))
-        ⌝ }
-{
+fn covers(t: Table, g: u32) -> Reply {
     let l = t.l;
-    let one = sharing::convert(l, &[g]);
+    let one = operations::convert(l, &[g]);
     let alone = one.table;
-    let both = sharing::join(Side::Positive, t, alone);
+    let both = operations::join(Side::Positive, t, alone);
     let answer = both.answer;
     let joined = both.table;
     match answer {
@@ -129,9 +110,7 @@ fn covers(t: Table, g: u32) -> Reply
 }
 
 // No for yes and yes for no.
-fn opposite(reply: Reply) -> Reply
-    ensures { λ r. ⌜ r ≡ opposite-reply reply ⌝ }
-{
+fn opposite(reply: Reply) -> Reply {
     match reply {
         Reply::Yes => Reply::No,
         Reply::No => Reply::Yes,
@@ -140,12 +119,7 @@ fn opposite(reply: Reply) -> Reply
 }
 
 // Is g one of the groups of the table? Of a negative table it is where no entry covers it.
-fn stands_for(side: Side, t: Table, g: u32) -> Reply
-    ensures { λ r. ⌜
-        (GoodTable t → t .n < 256 → 0 < g → g < 2 ^ (t .l)
-        → r ≡ replies (stands-for (side-of side) (entries-of t) (set (t .l) g)))
-        ⌝ }
-{
+fn stands_for(side: Side, t: Table, g: u32) -> Reply {
     match side {
         Side::Positive => covers(t, g),
         Side::Negative => opposite(covers(t, g)),
@@ -155,8 +129,7 @@ fn stands_for(side: Side, t: Table, g: u32) -> Reply
 // The l lowest binary digits of k, the highest first, then zeros.
 fn digits(l: u32, k: u32) -> [u8; 16]
     requires { ⌜ l ≤ 16 ⌝ }
-    ensures long { λ r. ⌜ length r ≡ 16 ⌝ }
-    ensures digits { λ r. ⌜ r ≡ binary l k ++ replicate (16 - l) 48 ⌝ }
+    ensures { λ r. ⌜ length r ≡ 16 ⌝ }
 {
     let mut out = [b'0'; 16];
     let mut left = k;
@@ -276,17 +249,13 @@ fn heading(name: &[u8], side: Side, given: &[u8], done: &[u8]) {
 // ---- The examples
 
 // X1 = f(X2, X3), as in Examples 2.6, 3.8 and 4.4: f is symbol 1 with two arguments.
-fn equated(side: Side, t: Table) -> Answered
-    ensures { λ r. ⌜ r ≡ equation-call (side-of side) t 1 (32786 ∷ 2 ∷ 3 ∷ []) ⌝ }
-{
-    sharing::equation(side, t, 1, &[32786, 2, 3])
+fn equated(side: Side, t: Table) -> Answered {
+    operations::equation(side, t, 1, &[32786, 2, 3])
 }
 
 // The projection onto X1, X2 and X3, as after Example 3.8 and in Example 4.6: the three lowest bits.
-fn projected(side: Side, t: Table) -> Answered
-    ensures { λ r. ⌜ r ≡ projection-call (side-of side) t 7 ⌝ }
-{
-    sharing::project(side, t, 7)
+fn projected(side: Side, t: Table) -> Answered {
+    operations::project(side, t, 7)
 }
 
 // Binary abstract unification.
@@ -357,7 +326,7 @@ fn example_4_1() {
     );
     let start = converted(4, given);
     let t = start.table;
-    let computed = sharing::change_side(Side::Positive, t);
+    let computed = operations::change_side(Side::Positive, t);
     compare(Side::Negative, 4, computed, b"11**, 1*1*, *11*, **11");
 }
 
@@ -374,7 +343,7 @@ fn after_example_4_1() {
         given,
         b" converted, then changed to negative",
     );
-    let computed = sharing::change_side(Side::Positive, t);
+    let computed = operations::change_side(Side::Positive, t);
     compare(
         Side::Negative,
         4,
@@ -396,12 +365,12 @@ fn after_definition_4_2() {
     let t = read_table(4, given);
     let one = converted(4, b"1001");
     let alone = one.table;
-    let other = sharing::change_side(Side::Positive, alone);
+    let other = operations::change_side(Side::Positive, alone);
     let u = other.table;
     compare(
         Side::Negative,
         4,
-        sharing::join(Side::Negative, t, u),
+        operations::join(Side::Negative, t, u),
         given,
     );
 }
@@ -417,7 +386,7 @@ fn example_4_4() {
     compare(
         Side::Positive,
         4,
-        sharing::change_side(Side::Negative, t),
+        operations::change_side(Side::Negative, t),
         b"0001, 110*, 101*, 111*",
     );
 }

@@ -1,8 +1,6 @@
-pub mod Filling
 pub mod Sets
-pub mod RowLaws
-pub mod Folds
-pub mod Filtering
-pub mod Placing
-pub mod Taking
-pub mod Regrouped
+pub mod RowEnds
+pub mod ProceduresAsFolds
+pub mod PieceLoop
+pub mod MatchedEntries
+pub mod EquationsRegrouped

@@ -11,7 +11,7 @@ use Rattle.model.specs.Growth.{_>>=_, Entries, grow}
 use Rattle.model.specs.Tables.{relevant, cross, close, change-side}
 use Rattle.model.specs.Widest.{fresh, append-all}
 use Rattle.words.specs.Words.{set-word}
-use Rattle.lists.specs.Lists.{Holds}
+use Rattle.lists.specs.WorkingLists.{Holds}
 
 -- ---- Change of side
 
@@ -36,9 +36,9 @@ OfSets l list n mx mt P =
 unfoldable pub closed-cross : Entries → Entries → Option Entries
 closed-cross α β = cross α β >>= close
 
--- The joined entries of a positive table: close(cross(relevant x, relevant t)).
-unfoldable pub positive-joined : Bits → Bits → Entries → Option Entries
-positive-joined x t τ = do
+-- Of a positive table: close(cross(relevant x, relevant t)).
+unfoldable pub positive-closed-cross : Bits → Bits → Entries → Option Entries
+positive-closed-cross x t τ = do
   A ← relevant x τ
   B ← relevant t τ
   closed-cross A B
@@ -47,9 +47,9 @@ positive-joined x t τ = do
 unfoldable pub having-set : ℕ → Bits → Entries → Option Entries
 having-set l k τ = grow τ (zeros k) >>= change-side l
 
--- The joined groups of a negative table, changed back: K.
-unfoldable pub negative-joined : ℕ → Bits → Bits → Entries → Option Entries
-negative-joined l x t τ = do
+-- Of a negative table: the closed cross of A and B, changed back to K.
+unfoldable pub negative-closed-cross : ℕ → Bits → Bits → Entries → Option Entries
+negative-closed-cross l x t τ = do
   A ← having-set l x τ
   B ← having-set l t τ
   R ← closed-cross A B

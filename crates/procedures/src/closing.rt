@@ -7,7 +7,7 @@ ghost use Prim.Native.Nat.{_≤_};
 ghost use lib.ListN.{drop};
 ghost use Rattle.model.specs.Growth.{Entries, fold};
 ghost use Rattle.model.specs.Tables.{close-with, close as close-list};
-ghost use Rattle.lists.specs.Lists.{Holds, OfString, Within, Makes};
+ghost use Rattle.lists.specs.WorkingLists.{Holds, OfString, Within, Makes};
 ghost use Rattle.lists.specs.Filters.{Filters};
 
 // One c of Close, on the list R: grows R by "r or c" for each r that R has before, then by c. `row` is room.
@@ -32,7 +32,7 @@ fn close_unseen(
     l: u32,
     c: u64,
     row: &mut [u64; 256],
-    seen: &mut [u64; 1024],
+    seen: &mut [u64; lists::filter::SLOTS],
 ) -> Grown
     requires { ⌜ (n ≤ 256) × (l ≤ 32) ⌝ }
     ensures within { λ r. ⌜ Within r ⌝ }
@@ -72,7 +72,7 @@ fn close_rest(
         → Makes l (now (list .exit)) r (fold close-with τ (drop from γ)))
         ⌝ }
 {
-    let mut seen = [words::zero(l); 1024];
+    let mut seen = [words::zero(l); lists::filter::SLOTS];
     let mut k = n;
     let mut i = from;
     while i < cn {

@@ -9,11 +9,12 @@ ghost use Rattle.model.specs.Strings.{ones};
 ghost use Rattle.model.specs.Growth.{Entries, grow-all};
 ghost use Rattle.model.specs.Tables.{positive-equation, negative-equation};
 ghost use Rattle.words.specs.Words.{set-word};
-ghost use Rattle.lists.specs.Lists.{Holds, Within, Makes};
-ghost use Rattle.procedures.specs.Parts.{OfSets, closed-cross, positive-joined, having-set, negative-joined};
+ghost use Rattle.lists.specs.WorkingLists.{Holds, Within, Makes};
+ghost use Rattle.procedures.specs.Parts.{OfSets, closed-cross, positive-closed-cross, having-set};
+ghost use Rattle.procedures.specs.Parts.{negative-closed-cross};
 
 // The closed cross of the lists a and b, made in a. `c` and `row` are room.
-fn joined(
+fn closed_cross(
     a: &mut [u64; 256],
     an: usize,
     b: &[u64; 256],
@@ -35,8 +36,8 @@ fn joined(
     }
 }
 
-// The joined entries of a positive table: the closed cross of the relevant ones. `other` and `row` are room.
-fn positive_joined(
+// The closed cross of the relevant entries of a positive table. `other` and `row` are room.
+fn positive_closed_cross(
     t: &[u64; 256],
     tn: usize,
     l: u32,
@@ -49,13 +50,13 @@ fn positive_joined(
     requires { ⌜ (tn ≤ 256) × (l ≤ 32) ⌝ }
     ensures within { λ r. ⌜ Within r ⌝ }
     ensures made { λ r. ⌜
-        OfSets l (now (t .entry)) tn mx mt (λ τ x t. Makes l (now (list .exit)) r (positive-joined x t τ))
+        OfSets l (now (t .entry)) tn mx mt (λ τ x t. Makes l (now (list .exit)) r (positive-closed-cross x t τ))
         ⌝ }
 {
     let mut b = [0u64; 256];
     match crate::pairs::relevant(t, tn, l, mx, list, other, row) {
         Grown::Count(an) => match crate::pairs::relevant(t, tn, l, mt, &mut b, other, row) {
-            Grown::Count(bn) => joined(list, an, &b, bn, l, other, row),
+            Grown::Count(bn) => closed_cross(list, an, &b, bn, l, other, row),
             Grown::Full => Grown::Full,
         },
         Grown::Full => Grown::Full,
@@ -70,13 +71,13 @@ pub fn positive(t: &[u64; 256], tn: usize, l: u32, mx: u32, mt: u32, list: &mut 
         OfSets l (now (t .entry)) tn mx mt (λ τ x t. Makes l (now (list .exit)) r (positive-equation x t τ))
         ⌝ }
 {
-    let mut joins = [0u64; 256];
+    let mut crossed = [0u64; 256];
     let mut other = [0u64; 256];
     let mut row = [0u64; 256];
     match crate::pairs::irrelevant(t, tn, l, mx | mt, list, &mut other, &mut row) {
         Grown::Count(n) => {
-            match positive_joined(t, tn, l, mx, mt, &mut joins, &mut other, &mut row) {
-                Grown::Count(k) => lists::growth::grow_each(list, n, l, &joins, k),
+            match positive_closed_cross(t, tn, l, mx, mt, &mut crossed, &mut other, &mut row) {
+                Grown::Count(k) => lists::growth::grow_each(list, n, l, &crossed, k),
                 Grown::Full => Grown::Full,
             }
         }
@@ -107,8 +108,8 @@ fn having(
     }
 }
 
-// The joined groups of a negative table, as a negative list.
-fn negative_joined(
+// The closed cross of the groups of a negative table that have x and of those that have a variable of t, as a negative list.
+fn negative_closed_cross(
     t: &[u64; 256],
     tn: usize,
     l: u32,
@@ -119,7 +120,7 @@ fn negative_joined(
     requires { ⌜ (tn ≤ 256) × (l ≤ 32) ⌝ }
     ensures within { λ r. ⌜ Within r ⌝ }
     ensures made { λ r. ⌜
-        OfSets l (now (t .entry)) tn mx mt (λ τ x t. Makes l (now (list .exit)) r (negative-joined l x t τ))
+        OfSets l (now (t .entry)) tn mx mt (λ τ x t. Makes l (now (list .exit)) r (negative-closed-cross l x t τ))
         ⌝ }
 {
     let mut a = [0u64; 256];
@@ -127,7 +128,7 @@ fn negative_joined(
     let mut other = [0u64; 256];
     match having(t, tn, l, mx, &mut a, &mut other) {
         Grown::Count(an) => match having(t, tn, l, mt, &mut b, &mut other) {
-            Grown::Count(bn) => match joined(&mut a, an, &b, bn, l, &mut other, list) {
+            Grown::Count(bn) => match closed_cross(&mut a, an, &b, bn, l, &mut other, list) {
                 Grown::Count(n) => crate::sides::change_side(&a, n, l, list),
                 Grown::Full => Grown::Full,
             },
@@ -166,13 +167,13 @@ pub fn negative(t: &[u64; 256], tn: usize, l: u32, mx: u32, mt: u32, list: &mut 
         OfSets l (now (t .entry)) tn mx mt (λ τ x t. Makes l (now (list .exit)) r (negative-equation l x t τ))
         ⌝ }
 {
-    let mut joins = [0u64; 256];
+    let mut crossed = [0u64; 256];
     let mut others = [0u64; 256];
     let mut row = [0u64; 256];
-    match negative_joined(t, tn, l, mx, mt, &mut joins) {
+    match negative_closed_cross(t, tn, l, mx, mt, &mut crossed) {
         Grown::Count(k) => match lacking(t, tn, l, mx | mt, &mut others, &mut row) {
             Grown::Count(c) => {
-                crate::pairs::pairs(Pairing::Meet, &others, c, &joins, k, l, list, &mut row)
+                crate::pairs::pairs(Pairing::Meet, &others, c, &crossed, k, l, list, &mut row)
             }
             Grown::Full => Grown::Full,
         },

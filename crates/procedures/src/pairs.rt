@@ -9,7 +9,7 @@ ghost use Rattle.model.specs.Groups.{Bits};
 ghost use Rattle.model.specs.Growth.{Entries, grow-all};
 ghost use Rattle.model.specs.Tables.{relevant as relevant-list, irrelevant as irrelevant-list};
 ghost use Rattle.words.specs.Words.{set-word};
-ghost use Rattle.lists.specs.Lists.{Holds, Within, Makes};
+ghost use Rattle.lists.specs.WorkingLists.{Holds, Within, Makes};
 ghost use Rattle.procedures.specs.Pairs.{pairs-of};
 
 // Grows an empty list by the candidates of each string of a with each of b, the first's outermost. `row` is room.
@@ -69,7 +69,7 @@ fn pairs_unseen(
 {
     // As a slice its length is known.
     let whole: &[u64] = &*list;
-    let mut seen = [words::zero(l); 1024];
+    let mut seen = [words::zero(l); lists::filter::SLOTS];
     let mut n = 0;
     let mut i = 0;
     while i < an {

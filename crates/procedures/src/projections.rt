@@ -8,7 +8,7 @@ ghost use Rattle.model.specs.Groups.{Bits};
 ghost use Rattle.model.specs.Growth.{Entries};
 ghost use Rattle.model.specs.Tables.{positive as positive-side, negative as negative-side, join, kept, projection};
 ghost use Rattle.words.specs.Words.{set-word};
-ghost use Rattle.lists.specs.Lists.{Holds, Within, Makes};
+ghost use Rattle.lists.specs.WorkingLists.{Holds, Within, Makes};
 
 // Join, positive: the first list grown by the strings of the second.
 pub fn join_positive(

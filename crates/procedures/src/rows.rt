@@ -10,7 +10,7 @@ ghost use Rattle.model.specs.Strings.{or-strings, ones};
 ghost use Rattle.model.specs.Growth.{Entries};
 ghost use Rattle.model.specs.Tables.{meets-with, kept};
 ghost use Rattle.words.specs.Words.{set-word};
-ghost use Rattle.lists.specs.Lists.{Holds, OfString};
+ghost use Rattle.lists.specs.WorkingLists.{Holds, OfString};
 ghost use Rattle.procedures.specs.Pairs.{row-of};
 
 // "a or b" for each b of the list.

@@ -9,7 +9,7 @@ ghost use Rattle.model.specs.Growth.{fold, Entries};
 ghost use Rattle.model.specs.Tables.{unmatched, take-away, change-side};
 ghost use Rattle.model.specs.Widest.{edges as edges-of, fresh, append-all, Complement};
 ghost use Rattle.words.specs.Words.{word};
-ghost use Rattle.lists.specs.Lists.{Holds, OfString, Within, Makes};
+ghost use Rattle.lists.specs.WorkingLists.{Holds, OfString, Within, Makes};
 ghost use Rattle.procedures.specs.Parts.{matched, append-pieces};
 
 // Moves the entries that match v into `taken`, in order; the others stay, in order. The number moved.
@@ -88,8 +88,8 @@ fn append_fresh(
     lists::growth::append(list, n, z)
 }
 
-// Appends the pieces that v leaves of y, rising, but for the all-zero one and those that one of the m edges subsumes. A turn
-// takes the lowest position left.
+// Appends the pieces that v leaves of y (in the field: y sharp v), rising, but for the all-zero one and those that one of
+// the m edges subsumes. A turn takes the lowest position left.
 fn pieces(
     list: &mut [u64; 256],
     n: usize,
@@ -106,7 +106,7 @@ fn pieces(
         → length t ≡ l → y ≡ word s → v ≡ word t → Makes l (now (list .exit)) r (append-pieces κ t τ s))
         ⌝ }
 {
-    let mut left = words::fixed(v) & (words::fixed(y) ^ 4294967295);
+    let mut left = words::fixed(v) & (words::fixed(y) ^ words::LOW);
     let mut k = n;
     while left != 0 {
         let z = words::opposed(y, v, u64::trailing_zeros(left));

@@ -16,13 +16,14 @@ use Rattle.tables.specs.declared.Refusal.{Refusal}
 use Rattle.tables.specs.declared.Refusal.the-variants as R
 use Rattle.tables.specs.declared.Answer.{Answer}
 use Rattle.tables.specs.declared.Answer.the-variants as A
+use Rattle.tables.specs.Refusals.{if-accepted}
 use Rattle.tables.specs.Values.{entries-of, check-table, GoodTable}
 use Rattle.tables.proofs.Checking.{passes-good}
 use Rattle.covering.proofs.Inclusion.{equal-within}
-use Rattle.sharing.specs.Outcomes.{TableValue, groups-of, JoinEarly, JoinReady}
+use Rattle.operations.specs.Outcomes.{TableValue, groups-of, JoinEarly, JoinReady}
 use Rattle.questions.specs.declared.Reply.{Reply}
 use Rattle.questions.specs.declared.Reply.the-variants.{Refused}
-use Rattle.questions.specs.Replies.{replies, after-check, good-sets, equal-call, ground-call, independent-call}
+use Rattle.questions.specs.Replies.{replies, good-sets, equal-call, ground-call, independent-call}
 use Rattle.questions.specs.Statements.{Replied, early, yes, no, EqualReplied, GroundEarly, GroundReady, GroundReplied}
 use Rattle.questions.specs.Statements.{IndependentEarly, IndependentReady, IndependentReplied}
 
@@ -35,11 +36,12 @@ module _ {Early : Refusal → Type 0} {Ready Statement : Type 0} where
 
   -- a question goes on only with a good table
   checked-first : (t : Table) → TableValue t → (q : Reply) → ((r : Refusal) → check-table t ≡ A.Refused r → Early r)
-      → (GoodTable t → Replied Early Ready Statement q) → Replied Early Ready Statement (after-check (check-table t) q)
-  unfolding after-check
+      → (GoodTable t → Replied Early Ready Statement q)
+      → Replied Early Ready Statement (if-accepted (check-table t) Refused q)
+  unfolding if-accepted
   checked-first t value q f g = go (check-table t) refl
     where
-      go : (c : Answer) → check-table t ≡ c → Replied Early Ready Statement (after-check c q)
+      go : (c : Answer) → check-table t ≡ c → Replied Early Ready Statement (if-accepted c Refused q)
       go A.Accepted e = g (passes-good t (value .cares) (value .values) e)
       go (A.Refused r) e = early (f r e)
 

@@ -17,10 +17,10 @@ use Rattle.words.specs.Words.{set}
 use Rattle.tables.specs.declared.Table.{Table}
 use Rattle.tables.specs.Values.{GoodTable}
 use Rattle.tables.proofs.Checking.{good-long}
-use Rattle.sharing.specs.Outcomes.{TableValue}
+use Rattle.operations.specs.Outcomes.{TableValue}
 use Rattle.questions.specs.declared.Reply.the-variants.{Yes}
 use Rattle.questions.specs.Replies.{good-sets, independent-call}
-use Rattle.questions.proofs.Settled.{independent-settled}
+use Rattle.questions.proofs.Exclusive.{independent-exclusive}
 
 -- ---- Equal is an equivalence, and equal tables give the same answers
 
@@ -42,16 +42,16 @@ equal-independent S R a b e f g h = f g (e g .1 h)
 -- ---- After x = t with t ground, x is ground
 
 -- no "a or b" where no group has a variable of t
-none-joined : (S X Y : Groups) → ((g : Bits) → S g → ¬ (Y g)) → (g : Bits) → ¬ (Ors (AOrB (Those S X) (Those S Y)) g)
-none-joined S X Y f g (one p) = f (p .b) (p .in-b .0) (p .in-b .1)
-none-joined S X Y f g (more p q) = f (p .b) (p .in-b .0) (p .in-b .1)
+none-related : (S X Y : Groups) → ((g : Bits) → S g → ¬ (Y g)) → (g : Bits) → ¬ (Ors (AOrB (Those S X) (Those S Y)) g)
+none-related S X Y f g (one p) = f (p .b) (p .in-b .0) (p .in-b .1)
+none-related S X Y f g (more p q) = f (p .b) (p .in-b .0) (p .in-b .1)
 
 -- where every variable of t is ground, x is ground after x = t
 pub ground-after : (S : Groups) (e : Equation) → ((y : ℕ) → T (occurs y (e .right)) → Ground S y)
     → Ground (After e S) (e .left)
 ground-after S e f g h x =
     ⊎-elim (λ k. k .1 x)
-    (none-joined S (WithVariable (e .left)) (WithSome (e .right)) (λ k s w. f (w .0) (w .1) k s (w .2)) g) h
+    (none-related S (WithVariable (e .left)) (WithSome (e .right)) (λ k s w. f (w .0) (w .1) k s (w .2)) g) h
 
 -- ---- {x} and {y} are independent exactly when no group has both
 
@@ -81,7 +81,7 @@ module _ (side : Side) (t : Table) (b : ℕ) (good : GoodTable t) (below : b < 2
   pub empty-independent : independent-call side t 0 b ≡ Yes
   unfolding good-sets
   empty-independent =
-      independent-settled side t 0 b value .yes-where .1 (
+      independent-exclusive side t 0 b value .yes-where .1 (
         (good, rw (lt-ltb 0 (2 ^ (t .l)) (pow-pos (t .l)), lt-ltb b (2 ^ (t .l)) below)),
         λ g s h. empty-meets (t .l) g (h .0),
       )
@@ -90,7 +90,7 @@ module _ (side : Side) (t : Table) (b : ℕ) (good : GoodTable t) (below : b < 2
   pub independent-empty : independent-call side t b 0 ≡ Yes
   unfolding good-sets
   independent-empty =
-      independent-settled side t b 0 value .yes-where .1 (
+      independent-exclusive side t b 0 value .yes-where .1 (
         (good, rw (lt-ltb b (2 ^ (t .l)) below, lt-ltb 0 (2 ^ (t .l)) (pow-pos (t .l)))),
         λ g s h. empty-meets (t .l) g (h .1),
       )

@@ -1,4 +1,4 @@
-pub mod Asking
+pub mod Tests
 pub mod Exact
-pub mod Settled
+pub mod Exclusive
 pub mod Laws

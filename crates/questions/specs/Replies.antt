@@ -8,9 +8,7 @@ use Rattle.model.specs.Questions.{equal, ground, independent}
 use Rattle.words.specs.Words.{set}
 use Rattle.tables.specs.declared.Table.{Table}
 use Rattle.tables.specs.declared.Refusal.the-variants as R
-use Rattle.tables.specs.declared.Answer.{Answer}
-use Rattle.tables.specs.declared.Answer.the-variants as A
-use Rattle.tables.specs.Refusals.{refusal-number}
+use Rattle.tables.specs.Refusals.{refusal-number, if-accepted}
 use Rattle.tables.specs.Values.{entries-of, check-table}
 use Rattle.questions.specs.declared.Reply.{Reply}
 use Rattle.questions.specs.declared.Reply.the-variants.{Yes, No, Refused}
@@ -31,21 +29,16 @@ reply-word Yes w = 1
 reply-word No w = 0
 reply-word (Refused r) w = w
 
--- Where a table was refused by its own check, the question is; else it goes on.
-unfoldable pub after-check : Answer → Reply → Reply
-after-check A.Accepted q = q
-after-check (A.Refused r) q = Refused r
-
 -- Are two tables of one side equal in groups? The test is the same for both sides: `equal-sides`.
 unfoldable pub equal-call : Table → Table → Reply
 equal-call t u =
-    after-check (check-table t) (after-check (check-table u)
+    if-accepted (check-table t) Refused (if-accepted (check-table u) Refused
     (cond (eqb (t .l) (u .l)) (replies (equal positive (t .l) (entries-of t) (entries-of u))) (Refused R.Unlike)))
 
 -- Is the variable Xx ground?
 unfoldable pub ground-call : Side → Table → ℕ → Reply
-ground-call side t x =
-    after-check (check-table t) (cond (named (t .l) x) (replies (ground side (t .l) (entries-of t) x)) (Refused R.Name))
+ground-call side t x = if-accepted (check-table t) Refused
+    (cond (named (t .l) x) (replies (ground side (t .l) (entries-of t) x)) (Refused R.Name))
 
 -- No bit above l in either set.
 unfoldable pub good-sets : ℕ → ℕ → ℕ → Bool
@@ -54,5 +47,5 @@ good-sets l a b = ltb a (2 ^ l) && ltb b (2 ^ l)
 -- Are two sets of variables independent?
 unfoldable pub independent-call : Side → Table → ℕ → ℕ → Reply
 independent-call side t a b =
-    after-check (check-table t)
+    if-accepted (check-table t) Refused
     (cond (good-sets (t .l) a b) (replies (independent side (t .l) (entries-of t) (set (t .l) a) (set (t .l) b))) (Refused R.Name))

@@ -15,7 +15,7 @@ use Rattle.tables.specs.declared.Refusal.the-variants as R
 use Rattle.tables.specs.declared.Answer.the-variants as A
 use Rattle.tables.specs.Refusals.{one-of}
 use Rattle.tables.specs.Values.{check-table, GoodTable}
-use Rattle.sharing.specs.Outcomes.{groups-of, JoinEarly, JoinReady}
+use Rattle.operations.specs.Outcomes.{groups-of, JoinEarly, JoinReady}
 use Rattle.questions.specs.declared.Reply.{Reply}
 use Rattle.questions.specs.declared.Reply.the-variants.{Yes, No, Refused}
 use Rattle.questions.specs.Replies.{good-sets, equal-call, ground-call, independent-call}
@@ -28,7 +28,7 @@ pub data Replied (Early : Refusal → Type 0) (Ready Statement : Type 0) : Reply
 
 -- The replies exclude each other: yes and no exactly where the question is ready and its statement holds or does not, each
 -- refusal exactly in its condition; a refusal has one of the numbers ns, which 8 is not.
-pub record Settled (ns : List ℕ) (Early : Refusal → Type 0) (Ready Statement : Type 0) (q : Reply) : Type 0 where
+pub record ExclusiveReplies (ns : List ℕ) (Early : Refusal → Type 0) (Ready Statement : Type 0) (q : Reply) : Type 0 where
   pub yes-where : (q ≡ Yes) ↔ (Ready × Statement)
   pub no-where : (q ≡ No) ↔ (Ready × ¬ Statement)
   pub refused-where : (r : Refusal) → (q ≡ Refused r) ↔ Early r
@@ -43,9 +43,10 @@ EqualReplied side t u =
     Replied (JoinEarly t u) (JoinReady t u) (Equal (groups-of side t) (groups-of side u)) (equal-call t u)
 
 -- The replies exclude each other; the refusals are 2, 3, 4 and 10.
-abbrev pub EqualSettled : Side → Table → Table → Type 0
-EqualSettled side t u =
-    Settled (2 ∷ 3 ∷ 4 ∷ 10 ∷ []) (JoinEarly t u) (JoinReady t u) (Equal (groups-of side t) (groups-of side u)) (equal-call t u)
+abbrev pub EqualExclusive : Side → Table → Table → Type 0
+EqualExclusive side t u =
+    ExclusiveReplies (2 ∷ 3 ∷ 4 ∷ 10 ∷ []) (JoinEarly t u) (JoinReady t u) (Equal (groups-of side t) (groups-of side u))
+    (equal-call t u)
 
 -- ---- Ground
 
@@ -63,9 +64,10 @@ GroundReplied side t x =
     Replied (GroundEarly t x) (GroundReady t x) (Ground (groups-of side t) x) (ground-call side t x)
 
 -- The replies exclude each other; the refusals are 2, 3, 4 and 5.
-abbrev pub GroundSettled : Side → Table → ℕ → Type 0
-GroundSettled side t x =
-    Settled (2 ∷ 3 ∷ 4 ∷ 5 ∷ []) (GroundEarly t x) (GroundReady t x) (Ground (groups-of side t) x) (ground-call side t x)
+abbrev pub GroundExclusive : Side → Table → ℕ → Type 0
+GroundExclusive side t x =
+    ExclusiveReplies (2 ∷ 3 ∷ 4 ∷ 5 ∷ []) (GroundEarly t x) (GroundReady t x) (Ground (groups-of side t) x)
+    (ground-call side t x)
 
 -- ---- Independent
 
@@ -84,7 +86,7 @@ IndependentReplied side t a b =
     (independent-call side t a b)
 
 -- The replies exclude each other; the refusals are 2, 3, 4 and 5.
-abbrev pub IndependentSettled : Side → Table → ℕ → ℕ → Type 0
-IndependentSettled side t a b =
-    Settled (2 ∷ 3 ∷ 4 ∷ 5 ∷ []) (IndependentEarly t a b) (IndependentReady t a b)
+abbrev pub IndependentExclusive : Side → Table → ℕ → ℕ → Type 0
+IndependentExclusive side t a b =
+    ExclusiveReplies (2 ∷ 3 ∷ 4 ∷ 5 ∷ []) (IndependentEarly t a b) (IndependentReady t a b)
     (Independent (groups-of side t) (set (t .l) a) (set (t .l) b)) (independent-call side t a b)

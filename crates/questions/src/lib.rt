@@ -1,5 +1,5 @@
 // The three questions on table values: equal, ground, independent. None grows a list, so none meets 8.
-use sharing::Side;
+use operations::Side;
 use tables::Answer;
 use tables::Refusal;
 use tables::Table;
@@ -9,7 +9,7 @@ ghost use Rattle.model.specs.Tables.{positive};
 ghost use Rattle.model.specs.Questions.{equal as equal-lists, ground as ground-list, independent as independent-list};
 ghost use Rattle.words.specs.Words.{set};
 ghost use Rattle.tables.specs.Values.{GoodTable, entries-of};
-ghost use Rattle.sharing.specs.Calls.{side-of};
+ghost use Rattle.operations.specs.Operations.{side-of};
 ghost use Rattle.questions.specs.Replies.{replies, reply-number, reply-word, equal-call, ground-call, independent-call};
 
 // What a question is answered.
@@ -51,8 +51,8 @@ fn replied(yes: bool) -> Reply
     Reply::No
 }
 
-// Do two good tables of one width and one side, whichever it is, stand for the same groups?
-fn same_groups(t: Table, u: Table) -> bool
+// Do two checked tables of one width and one side, whichever it is, stand for the same groups?
+fn equal_checked(t: Table, u: Table) -> bool
     requires { ⌜ GoodTable t × GoodTable u × (u .l ≡ t .l) ⌝ }
     ensures { λ r. ⌜ r ≡ equal-lists positive (t .l) (entries-of t) (entries-of u) ⌝ }
 {
@@ -76,7 +76,7 @@ pub fn equal(t: Table, u: Table) -> Reply
             Answer::Refused(r) => Reply::Refused(r),
             Answer::Accepted => {
                 if t.l == u.l {
-                    replied(same_groups(t, u))
+                    replied(equal_checked(t, u))
                 } else {
                     Reply::Refused(Refusal::Unlike)
                 }
@@ -85,8 +85,8 @@ pub fn equal(t: Table, u: Table) -> Reply
     }
 }
 
-// Has no group of a good table the variable Xx?
-fn without(side: Side, t: Table, x: u32) -> bool
+// Has no group of a checked table the variable Xx?
+fn ground_checked(side: Side, t: Table, x: u32) -> bool
     requires { ⌜ GoodTable t × (1 ≤ x) × (x ≤ t .l) ⌝ }
     ensures { λ r. ⌜ r ≡ ground-list (side-of side) (t .l) (entries-of t) x ⌝ }
 {
@@ -108,7 +108,7 @@ pub fn ground(side: Side, t: Table, x: u32) -> Reply
         Answer::Refused(r) => Reply::Refused(r),
         Answer::Accepted => {
             if (0 < x) & (x <= t.l) {
-                replied(without(side, t, x))
+                replied(ground_checked(side, t, x))
             } else {
                 Reply::Refused(Refusal::Name)
             }
@@ -116,8 +116,8 @@ pub fn ground(side: Side, t: Table, x: u32) -> Reply
     }
 }
 
-// Does no group of a good table meet both sets?
-fn unrelated(side: Side, t: Table, a: u32, b: u32) -> bool
+// Does no group of a checked table meet both sets?
+fn independent_checked(side: Side, t: Table, a: u32, b: u32) -> bool
     requires { ⌜ GoodTable t × (a < 2 ^ (t .l)) × (b < 2 ^ (t .l)) ⌝ }
     ensures { λ r. ⌜
         r ≡ independent-list (side-of side) (t .l) (entries-of t) (set (t .l) a) (set (t .l) b)
@@ -142,7 +142,7 @@ pub fn independent(side: Side, t: Table, a: u32, b: u32) -> Reply
         Answer::Accepted => {
             let full = words::full(t.l);
             if (a <= full) & (b <= full) {
-                replied(unrelated(side, t, a, b))
+                replied(independent_checked(side, t, a, b))
             } else {
                 Reply::Refused(Refusal::Name)
             }

@@ -12,27 +12,27 @@ use Rattle.model.specs.Calls.{Reaches}
 use Rattle.tables.specs.declared.Table.{Table}
 use Rattle.tables.specs.declared.Refusal.the-variants as R
 use Rattle.tables.specs.declared.Answer.the-variants.{Accepted}
-use Rattle.tables.specs.Refusals.{refusal-number}
+use Rattle.tables.specs.Refusals.{refusal-number, if-accepted}
 use Rattle.tables.specs.Values.{accepts, GoodTable}
-use Rattle.sharing.specs.Outcomes.{groups-of}
-use Rattle.sharing.specs.Calls.{side-told}
+use Rattle.operations.specs.Outcomes.{groups-of}
+use Rattle.operations.specs.Operations.{side-numbered}
 use Rattle.forms.specs.declared.Extent.the-variants.{Front}
-use Rattle.forms.specs.Tables.{read-table}
-use Rattle.forms.specs.Equations.{check-equations}
+use Rattle.forms.specs.TableForms.{read-table}
+use Rattle.forms.specs.EquationForms.{equations-in, check-equations}
 use Rattle.forms.proofs.Reading.{read-good}
 use Rattle.running.specs.declared.Running.{Running}
-use Rattle.running.specs.States.{none-applied, go-on, run-from, run-on}
+use Rattle.running.specs.States.{none-applied, run-from, run-on}
 use Rattle.analyser.specs.Demand3.{run-events}
 use Rattle.analyser.proofs.Demand3.{from-described}
-use Rattle.run_text.specs.declared.Reported.{Reported}
-use Rattle.report.specs.Reports.{most-input, after-table, equations-in, input-run, input-text, narrowed, fits-in}
-use Rattle.report.specs.Reports.{told, report-of}
+use Rattle.text.specs.declared.Reported.{Reported}
+use Rattle.report.specs.Reports.{most-input, after-table, input-run, input-text, narrowed, fits-in}
+use Rattle.report.specs.Reports.{reported, report-of}
 
 -- Whatever the output, a report that is not refused 9 returns the state of the run.
-pub told-state : (s : Running) (text out : List ℕ) → (told s text out .state .code ≡ refusal-number R.Narrow → ⊥)
-    → told s text out .state ≡ s
-unfolding told narrowed
-told-state s text out other = go (fits-in text out) (eqb (s .code) 0) other
+pub reported-state : (s : Running) (text out : List ℕ) → (reported s text out .state .code ≡ refusal-number R.Narrow → ⊥)
+    → reported s text out .state ≡ s
+unfolding reported narrowed
+reported-state s text out other = go (fits-in text out) (eqb (s .code) 0) other
   where
     go : (b c : Bool) → ((cond {A = Reported} b (record { state = s; size = length text })
         (record { state = cond c (none-applied (refusal-number R.Narrow) 0) s; size = 0 })) .state .code
@@ -51,11 +51,11 @@ pub report-described : (input out : List ℕ) (t : Table) → length input ≤ m
     → (θ θ′ : Bindings) → Describes (groups-of positive t) θ
     → Reaches θ (run-events (t .l) (report-of input out .state .applied) (equations-in (after-table input))) θ′
     → GoodTable (report-of input out .state .table) × Describes (groups-of positive (report-of input out .state .table)) θ′
-unfolding input-run run-on go-on side-told
+unfolding input-run run-on if-accepted side-numbered
 report-described input out t few reads checked other θ θ′ d r =
     let ws = equations-in (after-table input) in
     let run : input-run input ≡ run-from 0 t 0 ws = rw (le-leb (length input) most-input few, reads, checked) in
-    let is : report-of input out .state ≡ run-from 0 t 0 ws = told-state (input-run input) (input-text input) out other
+    let is : report-of input out .state ≡ run-from 0 t 0 ws = reported-state (input-run input) (input-text input) out other
     ∙ run in
     let g = from-described 0 t ws (read-good Front input t reads .0) θ θ′ d
     (subst (λ (y : Running). Reaches θ (run-events (t .l) (y .applied) ws) θ′) is r) in

@@ -16,31 +16,31 @@ use Rattle.tables.specs.declared.Refusal.the-variants as R
 use Rattle.tables.specs.declared.Answer.{Answer}
 use Rattle.tables.specs.declared.Answer.the-variants.{Accepted, Refused}
 use Rattle.tables.specs.declared.Answered.{Answered}
-use Rattle.tables.specs.Refusals.{refusal-number, member, one-of}
+use Rattle.tables.specs.Refusals.{refusal-number, if-accepted, member, one-of}
 use Rattle.tables.specs.Values.{accepts, GoodTable}
 use Rattle.tables.proofs.Numbers.{within, one-of-more, at-most, number-most}
-use Rattle.sharing.specs.Calls.{side-told, equation-call}
+use Rattle.operations.specs.Operations.{side-numbered}
 use Rattle.forms.specs.declared.Extent.the-variants.{Front}
-use Rattle.forms.specs.Tables.{first-size, second-size, read-table}
-use Rattle.forms.specs.Equations.{Written, check-each}
-use Rattle.forms.specs.Equations.{check-equations}
+use Rattle.forms.specs.TableForms.{read-table}
+use Rattle.forms.specs.EquationForms.{Written, check-each}
+use Rattle.forms.specs.EquationForms.{check-equations}
 use Rattle.forms.proofs.Tests.{equations-passed}
 use Rattle.forms.proofs.Reading.{read-good}
 use Rattle.forms.proofs.Numbers.{read-numbers, equations-numbers}
 use Rattle.running.specs.declared.Running.{Running}
-use Rattle.running.specs.States.{state, none-applied, go-on, run-from}
-use Rattle.running.proofs.Steps.{equations-ready}
+use Rattle.running.specs.States.{state, written-call, none-applied, run-from}
 use Rattle.analyser.proofs.Ends.{first-accepted, first-refused}
 use Rattle.text.proofs.Writing.{decimal-most}
-use Rattle.run_text.specs.declared.Reported.{Reported}
-use Rattle.run_text.specs.Lines.{eq, block, first-text, equation-text}
-use Rattle.run_text.specs.Runs.{text-on, text-from, run-text}
-use Rattle.run_text.proofs.Equations.{run-most}
+use Rattle.text.specs.declared.Reported.{Reported}
+use Rattle.text.specs.Lines.{eq, block, first-text, equation-text}
+use Rattle.text.specs.RunTexts.{most-text, text-from, run-text}
+use Rattle.text.proofs.LongestText.{run-most}
 use Rattle.report.specs.Reports.{most-input, after-table, refused-text, input-text, input-run, narrowed}
-use Rattle.report.specs.Reports.{fits-in, told, fitted, report-of, report-bytes}
-use Rattle.report.specs.Endings.{early-numbers, InputRefused, long, unread, unchecked, InputGood, input-equations, IsFull, most-text}
-use Rattle.report.specs.Endings.{Applied, no-more, one-more, applied-text, full-line, Ending, early, through, full}
-use Rattle.report.proofs.Fitting.{refused-length, told-fits, told-narrow}
+use Rattle.report.specs.Reports.{fits-in, reported, fitted, report-of, report-bytes}
+use Rattle.report.specs.Endings.{early-numbers, InputRefused, long, unread, unchecked, InputGood, input-equations}
+use Rattle.report.specs.Endings.{IsFull, Applied, no-more, one-more, applied-text, full-line}
+use Rattle.report.specs.Endings.{Ending, early, through, full}
+use Rattle.report.proofs.Fitting.{refused-length, reported-fits, reported-narrow}
 use Rattle.report.proofs.Inputs.{rest-refused, rest-goes, input-long, input-refused, input-goes}
 
 -- ---- The equations
@@ -52,7 +52,7 @@ data Course (t : Table) (ws : List Written) : Type 0 where
       → Applied t before u → IsFull u w → Course t ws
 
 -- one more equation before them
-course-on : (t u : Table) (w : Written) (ws : List Written) → equation-call positive t (w .left) (w .tokens) ≡ accepts u
+course-on : (t u : Table) (w : Written) (ws : List Written) → written-call positive t w ≡ accepts u
     → Course u ws → Course t (w ∷ ws)
 course-on t u w ws e (all a) = all (one-more e a)
 course-on t u w ws e (stops before x after split a f) = stops (w ∷ before) x after (ap (_∷_ w) split) (one-more e a) f
@@ -63,7 +63,7 @@ course [] t good e = all no-more
 course (w ∷ ws) t good e = go (next .answer) refl (course ws (next .table))
   where
     next : Answered
-    next = equation-call positive t (w .left) (w .tokens)
+    next = written-call positive t w
 
     go : (y : Answer) → next .answer ≡ y → (GoodTable (next .table) → check-each (next .table .l) ws ≡ Accepted
         → Course (next .table) ws) → Course t (w ∷ ws)
@@ -77,7 +77,7 @@ course (w ∷ ws) t good e = go (next .answer) refl (course ws (next .table))
 -- the run goes on after those that are applied
 run-applied : {t u : Table} {before : List Written} (rest : List Written) (k : ℕ) → Applied t before u
     → run-from 0 t k (before ++ rest) ≡ run-from 0 u (k + length before) rest
-unfolding run-from go-on side-told
+unfolding run-from if-accepted side-numbered
 run-applied {t} rest k no-more = let same : k ≡ k + 0 = omega arith in ap (λ (j : ℕ). run-from 0 t j rest) same
 run-applied {u = v} rest k (one-more {ws = ws} e a) =
     let same : k + 1 + length ws ≡ k + suc (length ws) = omega arith in
@@ -86,7 +86,7 @@ run-applied {u = v} rest k (one-more {ws = ws} e a) =
 -- so does the text
 text-applied : {t u : Table} {before : List Written} (rest : List Written) (k : ℕ) → Applied t before u
     → text-from t k (before ++ rest) ≡ applied-text t k before ++ text-from u (k + length before) rest
-unfolding text-from text-on equation-text applied-text
+unfolding text-from if-accepted equation-text applied-text
 text-applied {t} rest k no-more = let same : k ≡ k + 0 = omega arith in ap (λ (j : ℕ). text-from t j rest) same
 text-applied {u = v} rest k (one-more {u = u} {ws = ws} e a) =
     let same : k + 1 + length ws ≡ k + suc (length ws) = omega arith in
@@ -110,14 +110,14 @@ module _ {t u : Table} where
   -- where the next one is full
   module _ (before : List Written) (w : Written) (after : List Written) (a : Applied t before u) (f : IsFull u w) where
     run-full : run-from 0 t 0 (before ++ (w ∷ after)) ≡ state 8 0 (length before) u
-    unfolding run-from go-on side-told
+    unfolding run-from if-accepted side-numbered
     run-full =
         let count : 0 + length before ≡ length before = omega arith in
         run-applied (w ∷ after) 0 a ∙ rw f (ap (λ (j : ℕ). state 8 0 j u) count)
 
     text-full : run-text t (before ++ (w ∷ after))
         ≡ first-text t ++ (applied-text t 1 before ++ full-line (length before + 1))
-    unfolding run-text text-from text-on equation-text
+    unfolding run-text text-from if-accepted equation-text
     text-full =
         let count : 1 + length before ≡ length before + 1 = omega arith in
         ap (_++_ (first-text t)) (text-applied (w ∷ after) 1 a ∙ ap (_++_ (applied-text t 1 before))
@@ -126,9 +126,9 @@ module _ {t u : Table} where
 -- ---- An output that is too short
 
 -- a state other than 9 becomes 9 only where it was accepted and its text does not fit
-narrow-only : (s : Running) (text out : List ℕ) → s .code ≤ 8 → told s text out .state .code ≡ 9
+narrow-only : (s : Running) (text out : List ℕ) → s .code ≤ 8 → reported s text out .state .code ≡ 9
     → (s .code ≡ 0) × (length out < length text)
-unfolding told narrowed
+unfolding reported narrowed
 narrow-only s text out few e = go (fits-in text out) (eqb (s .code) 0) refl refl e
   where
     go : (b c : Bool) → fits-in text out ≡ b → eqb (s .code) 0 ≡ c
@@ -140,10 +140,10 @@ narrow-only s text out few e = go (fits-in text out) (eqb (s .code) 0) refl refl
     go false false f z e = absurd (omega (arith, few, e))
 
 narrow-there : (s : Running) (text out : List ℕ) → s .code ≡ 0 → length out < length text
-    → told s text out .state .code ≡ 9
+    → reported s text out .state .code ≡ 9
 unfolding narrowed
 narrow-there s text out z short =
-    ap (λ (r : Reported). r .state .code) (sym (told-narrow s text out short))
+    ap (λ (r : Reported). r .state .code) (sym (reported-narrow s text out short))
     ∙ ap (λ (n : ℕ). cond (eqb n 0) (none-applied (refusal-number R.Narrow) 0) s .code) z
 
 -- ---- The input
@@ -153,7 +153,7 @@ unfolding at-most
 early-most = tt
 
 module _ (input : List ℕ) where
-  -- What an input that is refused comes to: it has applied none, and only the number is told.
+  -- What an input that is refused comes to: it has applied none, and only the number is reported.
   pub refused-ends : {r : Refusal} → InputRefused input r
       → (input-run input ≡ none-applied (refusal-number r) 0) × (input-text input ≡ refused-text (refusal-number r))
   refused-ends (long over) = let same = input-long input over in (sym (same .0), sym (same .1))
@@ -244,10 +244,9 @@ module _ (input : List ℕ) where
           let n = refusal-number r in
           rw (refused-ends h .1) (omega (arith, refused-length n, decimal-most n))
       go (good {t} g) =
-          let q = after-table input in
-          let few = equations-ready (t .l) q _ _ refl refl (g .checked) .1 in
+          let passed = equations-passed (t .l) (after-table input) (g .checked) in
           rw (good-ends g .1)
-          (run-most t (first-size q) (second-size q) q (read-good Front input t (g .reads) .0) few)
+          (run-most t (after-table input) (read-good Front input t (g .reads) .0) (passed .sizes))
 
   -- the code of a run is at most 8
   code-most : input-run input .code ≤ 8
@@ -267,7 +266,7 @@ module _ (input : List ℕ) where
     unfolding fitted
     report-whole room =
         let fits : length (input-text input) ≤ length out = omega (arith, input-most, room) in
-        (sym (told-fits (input-run input) (input-text input) out fits), rw (le-leb _ _ fits))
+        (sym (reported-fits (input-run input) (input-text input) out fits), rw (le-leb _ _ fits))
 
     -- A report is refused 9 exactly where its run is accepted and its text does not fit into the output.
     pub report-narrow : (report-of input out .state .code ≡ refusal-number R.Narrow)

@@ -15,12 +15,12 @@ use Rattle.codec.proofs.Laws.{sets-append}
 use Rattle.text.specs.Text.{newline, decimal}
 use Rattle.running.specs.declared.Running.{Running}
 use Rattle.running.specs.States.{none-applied}
-use Rattle.run_text.specs.Lines.{refused}
-use Rattle.report.specs.Reports.{refused-text, narrowed, told, fitted}
+use Rattle.text.specs.Lines.{refused}
+use Rattle.report.specs.Reports.{refused-text, narrowed, reported, fitted}
 
 -- ---- Refusals
 
-pub code-positive : (r : Refusal) → eqb (refusal-number r) 0 ≡ false
+code-positive : (r : Refusal) → eqb (refusal-number r) 0 ≡ false
 code-positive R.Torn = refl
 code-positive R.Width = refl
 code-positive R.Entries = refl
@@ -34,6 +34,7 @@ code-positive R.Unlike = refl
 code-positive R.Keep = refl
 
 module _ (code : ℕ) where
+  -- The word, the number and a newline.
   pub refused-length : length (refused-text code) ≡ 8 + length (decimal code) + 1
   unfolding refused-text
   refused-length = omega (arith, length-append (decimal code) (newline ∷ []))
@@ -48,25 +49,30 @@ module _ (code : ℕ) where
 -- ---- What is returned, and what is written
 
 module _ (s : Running) (text out : List ℕ) where
-  pub told-fits : length text ≤ length out → record { state = s; size = length text } ≡ told s text out
-  unfolding told
-  told-fits h = rw (le-leb (length text) (length out) h)
+  -- Where the text fits the state is returned, with the length of the text.
+  pub reported-fits : length text ≤ length out → record { state = s; size = length text } ≡ reported s text out
+  unfolding reported
+  reported-fits h = rw (le-leb (length text) (length out) h)
 
-  pub told-narrow : length out < length text → record { state = narrowed s; size = 0 } ≡ told s text out
-  unfolding told
-  told-narrow h = rw (lt-leb (length text) (length out) h)
+  -- Where it does not, nothing is counted.
+  pub reported-narrow : length out < length text → record { state = narrowed s; size = 0 } ≡ reported s text out
+  unfolding reported
+  reported-narrow h = rw (lt-leb (length text) (length out) h)
 
 module _ (text out : List ℕ) where
+  -- Where the text fits it is written.
   pub fitted-fits : length text ≤ length out → sets out 0 text ≡ fitted text out
   unfolding fitted
   fitted-fits h =
       let e : 0 + length text ≡ length text = omega arith in
       rw (le-leb (length text) (length out) h) (sets-eq text out 0 (omega (arith, h)) ∙ ap (λ (k : ℕ). text ++ drop k out) e)
 
+  -- Where it does not, nothing is.
   pub fitted-narrow : length out < length text → out ≡ fitted text out
   unfolding fitted
   fitted-narrow h = rw (lt-leb (length text) (length out) h)
 
+-- A refused state stays as it was.
 pub narrowed-none : (r : Refusal) → none-applied (refusal-number r) 0 ≡ narrowed (none-applied (refusal-number r) 0)
 unfolding narrowed
 narrowed-none r = rw (code-positive r)

@@ -8,12 +8,12 @@ use borrow.Author.Tests.{leb-true}
 use lib.ListN.{length, take, drop, length-append, length-drop}
 use lib.Seq.{length-take-le}
 use Rattle.running.specs.declared.Running.{Running}
-use Rattle.run_text.specs.declared.Reported.{Reported}
-use Rattle.report.specs.Reports.{narrowed, fits-in, told, fitted}
+use Rattle.text.specs.declared.Reported.{Reported}
+use Rattle.report.specs.Reports.{narrowed, fits-in, reported, fitted}
 
-told-within : (s : Running) (text out : List ℕ) → told s text out .size ≤ length out
-unfolding told
-told-within s text out = go (fits-in text out) refl
+reported-within : (s : Running) (text out : List ℕ) → reported s text out .size ≤ length out
+unfolding reported
+reported-within s text out = go (fits-in text out) refl
   where
     go : (b : Bool) → fits-in text out ≡ b
         → cond {A = Reported} b (record { state = s; size = length text }) (record { state = narrowed s; size = 0 })
@@ -34,9 +34,9 @@ fitted-length text out = go (fits-in text out) refl
     go false e = refl
 
 -- what a report answers counts bytes at the start of the output
-pub report-within : (s : Running) (text out : List ℕ) {r : Reported} {out′ : List ℕ} → r ≡ told s text out
+pub report-within : (s : Running) (text out : List ℕ) {r : Reported} {out′ : List ℕ} → r ≡ reported s text out
     → out′ ≡ fitted text out → (r .size ≤ length out′) × (r .size ≡ length (take (r .size) out′))
 report-within s text out {r} {out′} e f =
     let fits : r .size ≤ length out′ =
-    omega (arith, ap (λ (x : Reported). x .size) e, told-within s text out, ap length f, fitted-length text out) in
+    omega (arith, ap (λ (x : Reported). x .size) e, reported-within s text out, ap length f, fitted-length text out) in
     (fits, sym (length-take-le (r .size) out′ fits))

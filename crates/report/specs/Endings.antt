@@ -1,5 +1,5 @@
--- How a report ends (01, "The program `sharerun`" and "Refusals"): refused before any equation is applied, with every equation
--- applied, or at the first full one.
+-- How a report ends (01, "The program `sharerun`" and "Refusals"): refused before any equation is applied, with every
+-- equation applied, or at the first full one.
 use mathlib.Core.Path.{_≡_}
 use mathlib.Core.List.{List, [], _∷_, _++_}
 use Prim.Native.Nat.{ℕ, _+_, _≤_, _<_}
@@ -11,14 +11,13 @@ use Rattle.tables.specs.declared.Refusal.the-variants as R
 use Rattle.tables.specs.declared.Answer.the-variants.{Accepted, Refused}
 use Rattle.tables.specs.Refusals.{refusal-number}
 use Rattle.tables.specs.Values.{accepts, refuses}
-use Rattle.sharing.specs.Calls.{equation-call}
 use Rattle.forms.specs.declared.Extent.the-variants.{Front}
-use Rattle.forms.specs.Tables.{read-table}
-use Rattle.forms.specs.Equations.{Written, check-equations}
-use Rattle.running.specs.States.{state, none-applied}
+use Rattle.forms.specs.TableForms.{read-table}
+use Rattle.forms.specs.EquationForms.{Written, equations-in, check-equations}
+use Rattle.running.specs.States.{state, written-call, none-applied}
 use Rattle.text.specs.Text.{line}
-use Rattle.run_text.specs.Lines.{eq, refused, block, first-text}
-use Rattle.report.specs.Reports.{most-input, after-table, equations-in, refused-text, input-text, input-run}
+use Rattle.text.specs.Lines.{eq, refused, block, first-text}
+use Rattle.report.specs.Reports.{most-input, after-table, refused-text, input-text, input-run}
 
 -- ---- The input
 
@@ -48,12 +47,12 @@ input-equations input = equations-in (after-table input)
 
 -- The equation w from table t is answered full, with the table as it was.
 abbrev pub IsFull : Table → Written → Type 0
-IsFull t w = equation-call positive t (w .left) (w .tokens) ≡ refuses R.Full t
+IsFull t w = written-call positive t w ≡ refuses R.Full t
 
 -- Equations that are all accepted, each on the table that the last one gave, from the first table to the last.
 pub data Applied : Table → List Written → Table → Type 0 where
   no-more : {t : Table} → Applied t [] t
-  one-more : {t u v : Table} {w : Written} {ws : List Written} → equation-call positive t (w .left) (w .tokens) ≡ accepts u
+  one-more : {t u v : Table} {w : Written} {ws : List Written} → written-call positive t w ≡ accepts u
       → Applied u ws v → Applied t (w ∷ ws) v
 
 -- ---- The text
@@ -62,21 +61,18 @@ pub data Applied : Table → List Written → Table → Type 0 where
 unfoldable pub applied-text : Table → ℕ → List Written → List ℕ
 applied-text t k [] = []
 applied-text t k (w ∷ ws) =
-    let u = equation-call positive t (w .left) (w .tokens) .table in
+    let u = written-call positive t w .table in
     block eq k u ++ applied-text u (k + 1) ws
 
 -- Of the full equation numbered k: "eq k refused 8".
 abbrev pub full-line : ℕ → List ℕ
 full-line k = line eq k (32 ∷ refused) 8
 
--- No text of an input is longer than 286000 bytes.
-abbrev pub most-text : ℕ
-most-text = 286000
-
 -- ---- The end
 
--- How an input ends. Early: refused, none applied, only "refused" and the number. Through: 0, all equations applied and told.
--- Full: 8, with the table and the number of equations before the full one; these are told, then the line of the full one.
+-- How an input ends. Early: refused, none applied, only "refused" and the number. Through: 0, all equations applied and
+-- written. Full: 8, with the table and the number of equations before the full one; these are written, then the line of
+-- the full one.
 pub data Ending (input : List ℕ) : Type 0 where
   early : {r : Refusal} → InputRefused input r → input-run input ≡ none-applied (refusal-number r) 0
       → input-text input ≡ refused-text (refusal-number r) → Ending input

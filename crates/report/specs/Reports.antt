@@ -1,5 +1,5 @@
--- The report of an input (01, "The program `sharerun`"): a positive table, then equations; the run of them, its text, and what
--- is written into a lent output.
+-- The report of an input (01, "The program `sharerun`"): a positive table, then equations; the run of them, its text, and
+-- what is written into a lent output.
 use mathlib.Core.Bool.{Bool, cond}
 use mathlib.Core.List.{List, [], _∷_, _++_}
 use Prim.Native.Nat.{ℕ}
@@ -7,16 +7,16 @@ use lib.Dec.{leb, eqb}
 use lib.ListN.{length, drop}
 use Rattle.tables.specs.declared.Table.{Table}
 use Rattle.tables.specs.declared.Refusal.the-variants as R
-use Rattle.tables.specs.Refusals.{refusal-number, answer-number}
+use Rattle.tables.specs.Refusals.{refusal-number, if-accepted}
 use Rattle.forms.specs.declared.Extent.the-variants.{Front}
-use Rattle.forms.specs.Tables.{first-size, second-size, table-length, read-table}
-use Rattle.forms.specs.Equations.{Written, equations-of, check-equations}
+use Rattle.forms.specs.TableForms.{second-size, table-length, read-table}
+use Rattle.forms.specs.EquationForms.{Written, equations-in, check-equations}
 use Rattle.running.specs.declared.Running.{Running}
-use Rattle.running.specs.States.{none-applied, go-on, run-from, run-on}
-use Rattle.run_text.specs.declared.Reported.{Reported}
+use Rattle.running.specs.States.{none-applied, run-from, run-on}
+use Rattle.text.specs.declared.Reported.{Reported}
 use Rattle.text.specs.Text.{newline, decimal}
-use Rattle.run_text.specs.Lines.{refused}
-use Rattle.run_text.specs.Runs.{text-on, run-text}
+use Rattle.text.specs.Lines.{refused}
+use Rattle.text.specs.RunTexts.{run-text}
 
 -- ---- The input
 
@@ -28,10 +28,6 @@ most-input = 4096
 abbrev pub after-table : List ℕ → List ℕ
 after-table input = drop (table-length (second-size input)) input
 
--- The equations of a form.
-abbrev pub equations-in : List ℕ → List Written
-equations-in q = equations-of (first-size q) (second-size q) q
-
 -- ---- The text
 
 -- Of an input that is refused: only the number.
@@ -41,8 +37,7 @@ refused-text code = refused ++ (decimal code ++ (newline ∷ []))
 -- The text of a table that was read and the bytes after it.
 unfoldable pub rest-text : Table → List ℕ → List ℕ
 rest-text t q =
-    let c = check-equations (t .l) q in
-    text-on c (refused-text (answer-number c)) (run-text t (equations-in q))
+    if-accepted (check-equations (t .l) q) (λ r. refused-text (refusal-number r)) (run-text t (equations-in q))
 
 -- The text of an input: above 4096 bytes is 1 before any other check; then the table, which more may follow; then the
 -- equations, which are exactly the rest.
@@ -50,7 +45,7 @@ unfoldable pub input-text : List ℕ → List ℕ
 input-text input =
     let a = read-table Front input in
     cond (leb (length input) most-input)
-    (text-on (a .answer) (refused-text (answer-number (a .answer))) (rest-text (a .table) (after-table input)))
+    (if-accepted (a .answer) (λ r. refused-text (refusal-number r)) (rest-text (a .table) (after-table input)))
     (refused-text (refusal-number R.Torn))
 
 -- ---- The run
@@ -60,12 +55,12 @@ unfoldable pub input-run : List ℕ → Running
 input-run input =
     let a = read-table Front input in
     cond (leb (length input) most-input)
-    (go-on (a .answer) (none-applied (answer-number (a .answer)) 0) (run-on 0 (a .table) (after-table input)))
+    (if-accepted (a .answer) (λ r. none-applied (refusal-number r) 0) (run-on 0 (a .table) (after-table input)))
     (none-applied (refusal-number R.Torn) 0)
 
 -- ---- What is returned, and what is written
 
--- Where the text does not fit, an accepted run is refused 9 and has applied none; a refused one, full too, stays what it was.
+-- Where the text does not fit, an accepted run is refused 9 and has applied none; a refused one, full too, stays as it was.
 unfoldable pub narrowed : Running → Running
 narrowed s = cond (eqb (s .code) 0) (none-applied (refusal-number R.Narrow) 0) s
 
@@ -74,8 +69,8 @@ abbrev pub fits-in : List ℕ → List ℕ → Bool
 fits-in text out = leb (length text) (length out)
 
 -- What is returned of a run and its text: the state of the run, and the length of what was written.
-unfoldable pub told : Running → List ℕ → List ℕ → Reported
-told s text out =
+unfoldable pub reported : Running → List ℕ → List ℕ → Reported
+reported s text out =
     cond (fits-in text out) (record { state = s; size = length text }) (record { state = narrowed s; size = 0 })
 
 -- The bytes of the output: the text, and past it what they held; where it does not fit nothing is written.
@@ -84,19 +79,19 @@ fitted text out = cond (fits-in text out) (text ++ drop (length text) out) out
 
 -- What is returned where an input is refused.
 abbrev pub refused-report : ℕ → List ℕ → Reported
-refused-report code out = told (none-applied code 0) (refused-text code) out
+refused-report code out = reported (none-applied code 0) (refused-text code) out
 
 -- What is returned of a run whose input passed its checks.
 abbrev pub run-report : Table → List Written → List ℕ → Reported
-run-report t ws out = told (run-from 0 t 0 ws) (run-text t ws) out
+run-report t ws out = reported (run-from 0 t 0 ws) (run-text t ws) out
 
 -- What is returned of a table that was read and the bytes after it.
 abbrev pub rest-report : Table → List ℕ → List ℕ → Reported
-rest-report t q out = told (run-on 0 t q) (rest-text t q) out
+rest-report t q out = reported (run-on 0 t q) (rest-text t q) out
 
 -- What is returned of an input.
 abbrev pub report-of : List ℕ → List ℕ → Reported
-report-of input out = told (input-run input) (input-text input) out
+report-of input out = reported (input-run input) (input-text input) out
 
 -- The bytes of the output afterwards.
 abbrev pub report-bytes : List ℕ → List ℕ → List ℕ

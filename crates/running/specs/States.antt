@@ -4,27 +4,21 @@ use mathlib.Core.List.{List, [], _∷_}
 use Prim.Native.Nat.{ℕ, _+_}
 use lib.Dec.{ltb}
 use lib.ListN.{length}
+use Rattle.model.specs.Tables.{Side}
 use Rattle.tables.specs.declared.Table.{Table}
-use Rattle.tables.specs.declared.Answer.{Answer}
-use Rattle.tables.specs.declared.Answer.the-variants.{Accepted, Refused}
 use Rattle.tables.specs.declared.Answered.{Answered}
-use Rattle.tables.specs.Refusals.{answer-number}
+use Rattle.tables.specs.Refusals.{refusal-number, answer-number, if-accepted}
 use Rattle.tables.specs.Values.{zero-table}
-use Rattle.sharing.specs.Calls.{side-told, equation-call}
+use Rattle.operations.specs.Operations.{side-numbered, equation-call}
 use Rattle.forms.specs.declared.Extent.the-variants.{Whole}
-use Rattle.forms.specs.Tables.{first-size, second-size, read-table, table-form, write-answer, written}
-use Rattle.forms.specs.Equations.{Written, equations-of, check-equations}
-use Rattle.byte_calls.specs.Calls.{term-call}
+use Rattle.forms.specs.TableForms.{read-table, table-form, write-answer, written}
+use Rattle.forms.specs.EquationForms.{Written, equations-in, check-equations}
+use Rattle.byte_calls.specs.ByteCalls.{term-call}
 use Rattle.running.specs.declared.Running.{Running}
 
--- A state: the answer of the call that last wrote it, the side as it was told, the number of accepted equations, the table.
+-- A state: the answer of the call that last wrote it, the side as it was given, the number of accepted equations, the table.
 abbrev pub state : ℕ → ℕ → ℕ → Table → Running
 state code side applied t = record { code = code; side = side; applied = applied; table = t }
-
--- The second where accepted, else the first.
-unfoldable pub go-on : Answer → Running → Running → Running
-go-on Accepted stop next = next
-go-on (Refused r) stop next = stop
 
 -- ---- The running analysis
 
@@ -32,22 +26,26 @@ go-on (Refused r) stop next = stop
 unfoldable pub started : ℕ → List ℕ → Running
 started side b = state (answer-number (read-table Whole b .answer)) side 0 (read-table Whole b .table)
 
+-- The largest count of accepted equations.
+abbrev pub most-applied : ℕ
+most-applied = 4294967295
+
 -- One more accepted equation; the count stays at its largest number.
 unfoldable pub one-more : ℕ → ℕ
-one-more k = cond (ltb k 4294967295) (k + 1) k
+one-more k = cond (ltb k most-applied) (k + 1) k
 
 -- What is answered to one equation, with its term as bytes.
 abbrev pub step-answered : Running → ℕ → List ℕ → Answered
-step-answered s x term = term-call (side-told (s .side)) (s .table) x term
+step-answered s x term = term-call (side-numbered (s .side)) (s .table) x term
 
 -- The number that a step returns.
 unfoldable pub step-number : Running → ℕ → List ℕ → ℕ
 step-number s x term = answer-number (step-answered s x term .answer)
 
--- The state after an answer to an equation: a refusal leaves the whole state as it was; else `code` is 0, one more equation is
--- counted, and the table is the one after it.
+-- The state after an answer to an equation: a refusal leaves the whole state as it was; else `code` is 0, one more equation
+-- is counted, and the table is the one after it.
 unfoldable pub after-answer : Running → Answered → Running
-after-answer s a = go-on (a .answer) s (state 0 (s .side) (one-more (s .applied)) (a .table))
+after-answer s a = if-accepted (a .answer) (λ r. s) (state 0 (s .side) (one-more (s .applied)) (a .table))
 
 -- The state after one equation.
 unfoldable pub advanced : Running → ℕ → List ℕ → Running
@@ -55,29 +53,32 @@ advanced s x term = after-answer s (step-answered s x term)
 
 -- ---- The run
 
+-- What is answered to a written equation.
+abbrev pub written-call : Side → Table → Written → Answered
+written-call side t w = equation-call side t (w .left) (w .tokens)
+
 -- A run that applied none, with a table all zero.
 abbrev pub none-applied : ℕ → ℕ → Running
 none-applied code side = state code side 0 zero-table
 
--- The equations in order from table t, k of them before: the first that is refused ends the run, with the table and the number
--- before it.
+-- The equations in order from table t, k of them before: the first that is refused ends the run, with the table and the
+-- number before it.
 unfoldable pub run-from : ℕ → Table → ℕ → List Written → Running
 run-from side t k [] = state 0 side k t
 run-from side t k (w ∷ ws) =
-    let a = equation-call (side-told side) t (w .left) (w .tokens) in
-    go-on (a .answer) (state (answer-number (a .answer)) side k (a .table)) (run-from side (a .table) (k + 1) ws)
+    let a = written-call (side-numbered side) t w in
+    if-accepted (a .answer) (λ r. state (refusal-number r) side k (a .table)) (run-from side (a .table) (k + 1) ws)
 
 -- A run of a table that was read and the bytes of equations: all are checked first, and a refusal by then has applied none.
 unfoldable pub run-on : ℕ → Table → List ℕ → Running
 run-on side t q =
-    let c = check-equations (t .l) q in
-    go-on c (none-applied (answer-number c) side) (run-from side t 0 (equations-of (first-size q) (second-size q) q))
+    if-accepted (check-equations (t .l) q) (λ r. none-applied (refusal-number r) side) (run-from side t 0 (equations-in q))
 
 -- A run: the table is read, then all equations are checked; a refusal by then has applied none.
 unfoldable pub run-state : ℕ → List ℕ → List ℕ → Running
 run-state side b q =
     let a = read-table Whole b in
-    go-on (a .answer) (none-applied (answer-number (a .answer)) side) (run-on side (a .table) q)
+    if-accepted (a .answer) (λ r. none-applied (refusal-number r) side) (run-on side (a .table) q)
 
 -- ---- Writing the table of a state
 

@@ -1,16 +1,19 @@
 // The running analysis and the run, on states by value. Inner: not a public call.
+use forms::Cursor;
 use forms::Extent;
+use operations::Side;
 use tables::Answer;
+use tables::Answered;
 use tables::Table;
 ghost use mathlib.Core.Path.{_≡_};
 ghost use Prim.Native.Nat.{_≤_};
-ghost use lib.ListN.{length};
-ghost use Rattle.codec.specs.Numbers.{sum};
-ghost use Rattle.forms.specs.Equations.{equations-length, counts, equations-of};
-ghost use Rattle.running.specs.States.{one-more, started, step-number, advanced, none-applied, run-from, run-state};
-ghost use Rattle.running.specs.States.{state-number, state-bytes};
+ghost use Rattle.operations.specs.Operations.{side-of};
+ghost use Rattle.forms.specs.EquationForms.{most-equations, equations-in, GoodSizes, On, Here, this};
+ghost use Rattle.running.specs.States.{state, one-more, started, step-number, advanced, written-call, none-applied};
+ghost use Rattle.running.specs.States.{run-from, run-state, state-number, state-bytes};
 
-// A running analysis: the answer of the call that last wrote it, the side as it was told, how many equations were accepted, and the table.
+// A running analysis: the answer of the call that last wrote it, the side as it was given, how many equations were accepted,
+// and the table.
 #[repr(C)]
 pub struct Running {
     pub code: u32,
@@ -34,11 +37,14 @@ pub fn start(side: u32, b: &[u8]) -> Running
     }
 }
 
+// The largest count of accepted equations (most-applied).
+const APPLIED: u32 = 4294967295;
+
 // One more accepted equation. The count stays at its largest number.
 fn one_more(k: u32) -> u32
     ensures { λ r. ⌜ r ≡ one-more k ⌝ }
 {
-    if k < 4294967295 {
+    if k < APPLIED {
         return k + 1;
     }
     k
@@ -57,9 +63,9 @@ pub fn advance(s: Running, x: u32, term: &[u8]) -> Stepped
         ⌝ }
 {
     let t = s.table;
-    let told = s.side;
+    let number = s.side;
     let k = s.applied;
-    let side = sharing::side_numbered(told);
+    let side = operations::side_numbered(number);
     let a = byte_calls::equation_term(side, t, x, term);
     let answer = a.answer;
     let u = a.table;
@@ -72,7 +78,7 @@ pub fn advance(s: Running, x: u32, term: &[u8]) -> Stepped
             number: 0,
             state: Running {
                 code: 0,
-                side: told,
+                side: number,
                 applied: one_more(k),
                 table: u,
             },
@@ -80,59 +86,59 @@ pub fn advance(s: Running, x: u32, term: &[u8]) -> Stepped
     }
 }
 
-// Applies equations that were checked, in order, up to the first that is full.
-fn apply(side: u32, t: Table, e: usize, m: usize, q: &[u8]) -> Running
-    requires { ⌜
-        (e ≤ 64) × (m ≤ 1024) × (equations-length e m ≡ length (now q)) × (sum (counts e (now q)) ≡ m)
-        ⌝ }
-    ensures { λ r. ⌜ r ≡ run-from side t 0 (equations-of e m (now (q .entry))) ⌝ }
-{
-    let row = codec::tokens_at(q, 4 + 4 * e, m);
-    let tokens: &[u16] = &row;
-    let s = sharing::side_numbered(side);
-    let mut u = t;
-    let mut at = 0;
-    let mut k = 0;
-    while k < e {
-        let x = codec::number_at(q, 4 + 2 * k) as u32;
-        let n = codec::number_at(q, 4 + 2 * e + 2 * k) as usize;
-        let a = sharing::equation(s, u, x, &tokens[at..at + n]);
-        let answer = a.answer;
-        let v = a.table;
-        match answer {
-            Answer::Refused(r) => {
-                return Running {
-                    code: tables::refusal_number(r),
-                    side: side,
-                    applied: k as u32,
-                    table: v,
-                };
-            }
-            Answer::Accepted => {
-                u = v;
-                at = at + n;
-            }
-        }
-        k += 1;
-    }
-    Running {
-        code: 0,
-        side: side,
-        applied: e as u32,
-        table: u,
-    }
-}
-
-// A refused run has applied none.
-fn refused(code: u32, side: u32) -> Running
-    ensures { λ r. ⌜ r ≡ none-applied code side ⌝ }
+// The state of a run that stopped after k equations.
+pub fn stopped(code: u32, side: u32, k: usize, t: Table) -> Running
+    requires { ⌜ k ≤ most-equations ⌝ }
+    ensures { λ r. ⌜ r ≡ state code side k t ⌝ }
 {
     Running {
         code: code,
         side: side,
-        applied: 0,
-        table: Table::zero(),
+        applied: k as u32,
+        table: t,
     }
+}
+
+// A refused run has applied none.
+pub fn refused(code: u32, side: u32) -> Running
+    ensures { λ r. ⌜ r ≡ none-applied code side ⌝ }
+{
+    stopped(code, side, 0, Table::zero())
+}
+
+// The equation at a place of a form, on a table value.
+pub fn step(side: Side, t: Table, c: Cursor, q: &[u8]) -> Answered
+    requires { ⌜ On c (now q) × Here c ⌝ }
+    ensures { λ r. ⌜ r ≡ written-call (side-of side) t (this c (now (q .entry))) ⌝ }
+{
+    let x = forms::equations::left(c, q);
+    let term = forms::equations::term(c, q);
+    byte_calls::equation_term(side, t, x, term)
+}
+
+// Applies equations that were checked, in order, up to the first that is full.
+fn apply(side: u32, t: Table, q: &[u8]) -> Running
+    requires { ⌜ GoodSizes (now q) ⌝ }
+    ensures { λ r. ⌜ r ≡ run-from side t 0 (equations-in (now (q .entry))) ⌝ }
+{
+    let s = operations::side_numbered(side);
+    let mut u = t;
+    let mut c = forms::equations::first(q);
+    while forms::equations::more(c) {
+        let a = step(s, u, c, q);
+        let answer = a.answer;
+        let v = a.table;
+        match answer {
+            Answer::Refused(r) => {
+                return stopped(tables::refusal_number(r), side, c.k, v);
+            }
+            Answer::Accepted => {
+                u = v;
+                c = forms::equations::next(c, q);
+            }
+        }
+    }
+    stopped(0, side, c.k, u)
 }
 
 // A run of the equations of the bytes q on the table of the bytes b: the whole input is checked first.
@@ -146,13 +152,9 @@ pub fn run(side: u32, b: &[u8], q: &[u8]) -> Running
         Answer::Refused(r) => refused(tables::refusal_number(r), side),
         Answer::Accepted => {
             let l = t.l;
-            match forms::check_equations(l, q) {
+            match forms::equations::check(l, q) {
                 Answer::Refused(r) => refused(tables::refusal_number(r), side),
-                Answer::Accepted => {
-                    let e = codec::number_at(q, 0) as usize;
-                    let m = codec::number_at(q, 2) as usize;
-                    apply(side, t, e, m, q)
-                }
+                Answer::Accepted => apply(side, t, q),
             }
         }
     }

@@ -2,11 +2,15 @@
 use libc::STDIN_FILENO;
 use libc::STDOUT_FILENO;
 
-// One byte more than an input may have: what follows it cannot change the answer. No text is longer than 65 tables of 256
-// lines of 17 bytes, each under a line of at most 25; 286000 bytes hold them (run-most in crate run_text).
+// One byte more than an input may have (most-input): what follows it cannot change the answer.
+const INPUT: usize = 4097;
+
+// No text is longer than 65 tables of 256 lines of 17 bytes, each under a line of at most 25 (most-text).
+const TEXT: usize = 286000;
+
 fn main() {
-    let mut input = [0u8; 4097];
-    let mut text = [0u8; 286000];
+    let mut input = [0u8; INPUT];
+    let mut text = [0u8; TEXT];
     let n = io::read_full(STDIN_FILENO, &mut input);
     let r = report::report(&input[..n], &mut text);
     io::write_all(STDOUT_FILENO, &text[..r.size]);

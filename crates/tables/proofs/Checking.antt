@@ -241,9 +241,9 @@ width-most l h = leb-true l 16 (both-true (ltb 0 l) (leb l 16) h .1)
 -- ---- Both promises of the check, by its answer
 
 module _ (t : Table) {r : Refusal} where
-  pub told-refused : Refused r ≡ check-table t
+  pub check-refused : Refused r ≡ check-table t
       → (Refused r ≡ check-table t) × ((Refused r ≡ Accepted → GoodTable t) × (GoodTable t → Refused r ≡ Accepted))
-  told-refused e = (e, (λ q. absurd (let z : _≡_ {A = ℕ} 0 1 = cc in omega arith), λ g. e ∙ good-passes t g))
+  check-refused e = (e, (λ q. absurd (let z : _≡_ {A = ℕ} 0 1 = cc in omega arith), λ g. e ∙ good-passes t g))
 
 -- an answer of the three tests that accepts
 all-passed : (a b c : Bool)
@@ -264,6 +264,6 @@ passes-good t cs vs e =
     let b = both-true clean past (p .2) in
     stores-good t (p .0) (checked-holds (t .l) (t .care) (t .value) (t .n) cs vs (leb-true (t .n) limit (p .1)) (b .0) (b .1))
 
-pub told-accepted : (t : Table) → length (t .care) ≡ limit → length (t .value) ≡ limit → Accepted ≡ check-table t
+pub check-accepted : (t : Table) → length (t .care) ≡ limit → length (t .value) ≡ limit → Accepted ≡ check-table t
     → (Accepted ≡ check-table t) × ((Accepted ≡ Accepted → GoodTable t) × (GoodTable t → Accepted ≡ Accepted))
-told-accepted t cs vs e = (e, (λ q. passes-good t cs vs (sym e), λ g. refl))
+check-accepted t cs vs e = (e, (λ q. passes-good t cs vs (sym e), λ g. refl))

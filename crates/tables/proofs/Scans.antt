@@ -71,9 +71,9 @@ module _ (p : ℕ → Bool) where
   block-found i end k h le e = some-parts end k le ∙ rw (some-parts i end h, e, or-true)
 
   -- none is in the next block either
-  pub block-passed : (i end : ℕ) → i ≤ end → some-from 0 i p ≡ false → some-from i (end - i) p ≡ false
+  pub block-none : (i end : ℕ) → i ≤ end → some-from 0 i p ≡ false → some-from i (end - i) p ≡ false
       → some-from 0 end p ≡ false
-  block-passed i end h none e = some-parts i end h ∙ rw (none, e)
+  block-none i end h none e = some-parts i end h ∙ rw (none, e)
 
   -- the last block, which may start before i, decides
   pub block-last : (last i k : ℕ) → last ≤ i → last ≤ k → some-from 0 i p ≡ false

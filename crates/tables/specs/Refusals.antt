@@ -33,6 +33,11 @@ abbrev pub answer-number : Answer → ℕ
 answer-number Accepted = 0
 answer-number (Refused r) = refusal-number r
 
+-- Where accepted it goes on, else it stops with what is made of the refusal.
+unfoldable pub if-accepted : {A : Type 0} → Answer → (Refusal → A) → A → A
+if-accepted Accepted stop next = next
+if-accepted (Refused r) stop next = stop r
+
 -- The number is one of ns.
 unfoldable pub member : ℕ → List ℕ → Bool
 member k [] = false

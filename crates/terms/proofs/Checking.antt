@@ -16,27 +16,27 @@ use Rattle.model.proofs.Given.{Given, nothing, given}
 use Rattle.tables.specs.declared.Refusal.{Refusal}
 use Rattle.tables.specs.declared.Refusal.the-variants as R
 use Rattle.tables.specs.Refusals.{member, one-of}
-use Rattle.terms.specs.Checks.{used, took, all-named, word-of, Outcome, refuses, term-or-6, check-term, most-tokens}
+use Rattle.terms.specs.Checks.{used, parsed, all-named, word-of, Outcome, refuses, term-or-6, check-term, most-tokens}
 use Rattle.terms.specs.Checks.{check-equation, checked}
 use Rattle.terms.specs.declared.Reading.{Reading}
 use Rattle.terms.specs.declared.Reading.the-variants.{Used, NoTerm}
 use Rattle.terms.specs.declared.Checked.{Checked}
 use Rattle.terms.specs.declared.Checked.the-variants.{Variables, Refused}
-use Rattle.terms.proofs.Reader.{Taken, read-taken}
+use Rattle.terms.proofs.Reader.{Parsed, read-parsed}
 
--- the word w of the variables among all n tokens, if the term takes them all
-abbrev pub all-taken : ℕ → ℕ → Reading → Checked
-all-taken n w NoTerm = Refused R.Term
-all-taken n w (Used m) = cond (eqb m n) (Variables w) (Refused R.Term)
+-- the word w of the variables among all n tokens, if the term uses them all
+abbrev pub all-parsed : ℕ → ℕ → Reading → Checked
+all-parsed n w NoTerm = Refused R.Term
+all-parsed n w (Used m) = cond (eqb m n) (Variables w) (Refused R.Term)
 
 -- tokens all named are checked by what the reader answers
-pub term-checked : (l : ℕ) (ts : List ℕ) (a : Reading) → all-named l ts ≡ true → took l ts ≡ a
-    → all-taken (length ts) (word-of ts) a ≡ checked l (check-term l ts)
-unfolding took used check-term checked term-or-6 whole-term read-term variables _>>=_
-term-checked l ts a n e = rw (← e, n) (go (read-within (length ts) l ts) (read-taken (length ts) l ts))
+pub term-checked : (l : ℕ) (ts : List ℕ) (a : Reading) → all-named l ts ≡ true → parsed l ts ≡ a
+    → all-parsed (length ts) (word-of ts) a ≡ checked l (check-term l ts)
+unfolding parsed used check-term checked term-or-6 whole-term read-term variables _>>=_
+term-checked l ts a n e = rw (← e, n) (go (read-within (length ts) l ts) (read-parsed (length ts) l ts))
   where
-    go : (o : Option (Read Term)) → Given (Taken occurs l ts) o
-        → all-taken (length ts) (word-of ts) (used o)
+    go : (o : Option (Read Term)) → Given (Parsed occurs l ts) o
+        → all-parsed (length ts) (word-of ts) (used o)
         ≡ checked l (term-or-6 (o >>= λ t. cond (eqb (t .used) (length ts)) (some (t .value)) none))
     go none nothing = refl
     go (some r) (given t) = whole (eqb (r .used) (length ts)) refl

@@ -1,4 +1,4 @@
 pub mod Sets
-pub mod Naming
+pub mod TokenScans
 pub mod Reader
 pub mod Checking

@@ -1,5 +1,5 @@
--- The reader: what it takes is inside the tokens and has the term's variables, a greater depth changes nothing, and it answers
--- as the code goes. Assumes nothing.
+-- The reader: what it uses is inside the tokens and has the term's variables, a greater depth changes nothing, and it
+-- answers as the code goes. Assumes nothing.
 use mathlib.Core.Path.{_≡_, refl, sym, ap, ap₂, _∙_}
 use mathlib.Core.Bool.{Bool, true, false, cond}
 use mathlib.Core.List.{List, [], _∷_}
@@ -15,34 +15,35 @@ use lib.ListN.{length, getD, take, drop, length-drop}
 use lib.Seq.{take-add, take-all}
 use Rattle.model.specs.Growth.{_>>=_}
 use Rattle.model.specs.Terms.{Term, Terms, var, head, nil, cons, occurs, occurs-row, set-of}
-use Rattle.model.specs.Tokens.{is-variable, named, arity-of, symbol-of, Read, read-row, under-head, read-within, read-term}
+use Rattle.model.specs.Tokens.{first-head, is-variable, named, arity-of, symbol-of, Read, read-row, under-head}
+use Rattle.model.specs.Tokens.{read-within, read-term}
 use Rattle.model.proofs.Given.{Given, nothing, given, given-then}
 use Rattle.words.specs.Words.{set-word}
-use Rattle.terms.specs.Checks.{used, took, took-row, word-of}
+use Rattle.terms.specs.Checks.{used, parsed, parsed-row, word-of}
 use Rattle.terms.specs.declared.Reading.{Reading}
 use Rattle.terms.specs.declared.Reading.the-variants.{Used, NoTerm}
 use Rattle.terms.proofs.Sets as sets
-use Rattle.terms.proofs.Naming.{named-is, word-append}
+use Rattle.terms.proofs.TokenScans.{named-is, word-append}
 
--- ---- What is taken
+-- ---- What is read
 
 -- no more than there is, and the variables among the tokens are those that occur
-pub record Taken {A : Type 0} (occur : ℕ → A → Bool) (l : ℕ) (s : List ℕ) (r : Read A) : Type 0 where
+pub record Parsed {A : Type 0} (occur : ℕ → A → Bool) (l : ℕ) (s : List ℕ) (r : Read A) : Type 0 where
   pub inside : r .used ≤ length s
   pub word : word-of (take (r .used) s) ≡ set-word (set-of l (λ i. occur i (r .value)))
 
-row-taken : (l : ℕ) (read : List ℕ → Option (Read Term)) → ((s : List ℕ) → Given (Taken occurs l s) (read s))
-    → (k : ℕ) (s : List ℕ) → Given (Taken occurs-row l s) (read-row read k s)
+row-parsed : (l : ℕ) (read : List ℕ → Option (Read Term)) → ((s : List ℕ) → Given (Parsed occurs l s) (read s))
+    → (k : ℕ) (s : List ℕ) → Given (Parsed occurs-row l s) (read-row read k s)
 unfolding read-row word-of occurs-row
-row-taken l read h zero s =
+row-parsed l read h zero s =
     given {a = record { value = nil; used = 0 }} (record {
       inside = omega arith;
       word = sym (sets.none l (λ i. occurs-row i nil) (λ i. refl));
     })
-row-taken l read h (suc k) s =
+row-parsed l read h (suc k) s =
     given-then _ (h s)
     (λ t a.
-    given-then _ (row-taken l read h k (drop (t .used) s))
+    given-then _ (row-parsed l read h k (drop (t .used) s))
     (λ r b.
     let n : t .used + r .used ≤ length s = omega (arith, length-drop (t .used) s) in
     given (record {
@@ -61,17 +62,17 @@ one-variable l (suc k) h =
     let n = named-is l (suc k) h in
     sets.one l k (λ i. occurs i (var (suc k))) (n .1) (λ i. eqb·suc-suc i k) ∙ ap (λ (m : ℕ). 2 ^ m) (omega arith)
 
--- what the reader takes, at any depth
-pub read-taken : (d l : ℕ) (s : List ℕ) → Given (Taken occurs l s) (read-within d l s)
+-- what the reader uses, at any depth
+pub read-parsed : (d l : ℕ) (s : List ℕ) → Given (Parsed occurs l s) (read-within d l s)
 unfolding read-within under-head word-of occurs
-read-taken zero l s = nothing
-read-taken (suc d) l [] = nothing
-read-taken (suc d) l (t ∷ s) =
-    go (is-variable t) (named l t) refl refl (row-taken l (read-within d l) (read-taken d l) (arity-of t) s)
+read-parsed zero l s = nothing
+read-parsed (suc d) l [] = nothing
+read-parsed (suc d) l (t ∷ s) =
+    go (is-variable t) (named l t) refl refl (row-parsed l (read-within d l) (read-parsed d l) (arity-of t) s)
   where
     go : (b c : Bool) → is-variable t ≡ b → named l t ≡ c
-        → Given (Taken occurs-row l s) (read-row (read-within d l) (arity-of t) s)
-        → Given (Taken occurs l (t ∷ s)) (cond b (cond c (some (record { value = var t; used = 1 })) none)
+        → Given (Parsed occurs-row l s) (read-row (read-within d l) (arity-of t) s)
+        → Given (Parsed occurs l (t ∷ s)) (cond b (cond c (some (record { value = var t; used = 1 })) none)
         (under-head (symbol-of t) (read-row (read-within d l) (arity-of t) s)))
     go true true v n row =
         given {a = record { value = var t; used = 1 }} (record {
@@ -86,28 +87,28 @@ read-taken (suc d) l (t ∷ s) =
         }))
 
 -- what was answered as used is no more than there is
-used-inside : {A : Type 0} {occur : ℕ → A → Bool} {l : ℕ} {s : List ℕ} {o : Option (Read A)} → Given (Taken occur l s) o
+used-inside : {A : Type 0} {occur : ℕ → A → Bool} {l : ℕ} {s : List ℕ} {o : Option (Read A)} → Given (Parsed occur l s) o
     → (n : ℕ) → used o ≡ Used n → n ≤ length s
 unfolding used
 used-inside nothing n e = absurd (let z : _≡_ {A = ℕ} 0 1 = cc in omega arith)
 used-inside (given {a} p) n e = let z : a .used ≡ n = cc in omega (arith, p .inside)
 
--- a term takes no more than there is
-pub took-inside : (l n : ℕ) (s : List ℕ) → took l s ≡ Used n → n ≤ length s
-unfolding took read-term
-took-inside l n s e = used-inside (read-taken (length s) l s) n e
+-- a term uses no more than there is
+pub parsed-inside : (l n : ℕ) (s : List ℕ) → parsed l s ≡ Used n → n ≤ length s
+unfolding parsed read-term
+parsed-inside l n s e = used-inside (read-parsed (length s) l s) n e
 
 -- the part of a list from n on
 part-from : (n : ℕ) (s : List ℕ) → take (length s - n) (drop n s) ≡ drop n s
 part-from n s = take-all (length s - n) (drop n s) (omega (arith, length-drop n s))
 
--- a row from n on takes no more than there is from n on
-pub row-inside : (l k n m : ℕ) (s : List ℕ) → took-row l k (take (length s - n) (drop n s)) ≡ Used m → m ≤ length s - n
-unfolding took-row
+-- a row from n on uses no more than there is from n on
+pub row-inside : (l k n m : ℕ) (s : List ℕ) → parsed-row l k (take (length s - n) (drop n s)) ≡ Used m → m ≤ length s - n
+unfolding parsed-row
 row-inside l k n m s e =
     let r : List ℕ = take (length s - n) (drop n s) in
     rw (part-from n s, length-drop n s) at
-    (used-inside (row-taken l (read-within (length r) l) (read-taken (length r) l) k r) m e)
+    (used-inside (row-parsed l (read-within (length r) l) (read-parsed (length r) l) k r) m e)
 
 -- ---- A greater depth changes nothing
 
@@ -167,13 +168,13 @@ unfolding used under-head _>>=_
 used-under f none = refl
 used-under f (some r) = ap Used (sym (add-one (r .used)))
 
-pub row-none : (l : ℕ) (s : List ℕ) → Used 0 ≡ took-row l 0 s
-unfolding took-row read-row used
+pub row-none : (l : ℕ) (s : List ℕ) → Used 0 ≡ parsed-row l 0 s
+unfolding parsed-row read-row used
 row-none l s = refl
 
-took-next : (l k : ℕ) (s : List ℕ) → took-row l (suc k) s ≡ next (took l s) (λ n. took-row l k (drop n s))
-unfolding took took-row read-row read-term
-took-next l k s =
+parsed-next : (l k : ℕ) (s : List ℕ) → parsed-row l (suc k) s ≡ next (parsed l s) (λ n. parsed-row l k (drop n s))
+unfolding parsed parsed-row read-row read-term
+parsed-next l k s =
     ap (λ (f : ℕ → Option (Read Terms)). used (followed (read-term l s) f)) (λ i n. enough n i)
     ∙ used-followed (read-term l s) (λ n. read-row (read-within (length (drop n s)) l) k (drop n s))
   where
@@ -183,34 +184,34 @@ took-next l k s =
         (drop n s) (le-refl (length (drop n s)))
 
 -- a row of k terms, k not 0, after what its first term answers
-pub row-more : (l k : ℕ) (s : List ℕ) (a : Reading) → ¬ (k ≡ 0) → took l s ≡ a
-    → next a (λ n. took-row l (k - 1) (take (length s - n) (drop n s))) ≡ took-row l k s
+pub row-more : (l k : ℕ) (s : List ℕ) (a : Reading) → ¬ (k ≡ 0) → parsed l s ≡ a
+    → next a (λ n. parsed-row l (k - 1) (take (length s - n) (drop n s))) ≡ parsed-row l k s
 row-more l zero s a h e = absurd (h refl)
 row-more l (suc k) s a h e =
     let p : suc k - 1 ≡ k = omega arith in
-    rw (← e, p, took-next l k s) (ap (next (took l s)) (λ i n. took-row l k (part-from n s i)))
+    rw (← e, p, parsed-next l k s) (ap (next (parsed l s)) (λ i n. parsed-row l k (part-from n s i)))
 
 -- a term by its first token
-pub term-none : (l : ℕ) (s : List ℕ) → length s ≡ 0 → NoTerm ≡ took l s
-unfolding took read-term read-within used
+pub term-none : (l : ℕ) (s : List ℕ) → length s ≡ 0 → NoTerm ≡ parsed l s
+unfolding parsed read-term read-within used
 term-none l [] h = refl
 term-none l (t ∷ s) h = absurd (omega arith)
 
-pub term-variable : (l : ℕ) (s : List ℕ) (b : Bool) → ¬ (length s ≡ 0) → getD s 0 0 < 32768 → named l (getD s 0 0) ≡ b
-    → cond b (Used 1) NoTerm ≡ took l s
-unfolding took read-term read-within used
+pub term-variable : (l : ℕ) (s : List ℕ) (b : Bool) → ¬ (length s ≡ 0) → getD s 0 0 < first-head → named l (getD s 0 0) ≡ b
+    → cond b (Used 1) NoTerm ≡ parsed l s
+unfolding parsed read-term read-within used
 term-variable l [] b h v n = absurd (h refl)
-term-variable l (t ∷ s) b h v n = rw (lt-ltb t 32768 v, n) (go b)
+term-variable l (t ∷ s) b h v n = rw (lt-ltb t first-head v, n) (go b)
   where
     go : (b : Bool) → cond b (Used 1) NoTerm ≡ used (cond b (some (record { value = var t; used = 1 })) none)
     go true = refl
     go false = refl
 
 -- the answer of its row, and one more for the head
-pub term-head : (l : ℕ) (s : List ℕ) → ¬ (length s ≡ 0) → 32768 ≤ getD s 0 0
-    → one-more (took-row l (getD s 0 0 % 16) (take (length s - 1) (drop 1 s))) ≡ took l s
-unfolding took took-row read-term read-within
+pub term-head : (l : ℕ) (s : List ℕ) → ¬ (length s ≡ 0) → first-head ≤ getD s 0 0
+    → one-more (parsed-row l (getD s 0 0 % 16) (take (length s - 1) (drop 1 s))) ≡ parsed l s
+unfolding parsed parsed-row read-term read-within
 term-head l [] h v = absurd (h refl)
 term-head l (t ∷ s) h v =
-    rw (part-from 1 (t ∷ s), le-ltb t 32768 v)
+    rw (part-from 1 (t ∷ s), le-ltb t first-head v)
     (sym (used-under (symbol-of t) (read-row (read-within (length s) l) (arity-of t) s)))

@@ -18,18 +18,18 @@ use Rattle.terms.specs.declared.Checked.the-variants.{Variables, Refused
 
 -- ---- The reader
 
--- How many tokens were taken.
+-- How many tokens were used.
 unfoldable pub used : {A : Type 0} → Option (Read A) → Reading
 used none = NoTerm
 used (some r) = Used (r .used)
 
--- By the term at the front.
-unfoldable pub took : ℕ → List ℕ → Reading
-took l ts = used (read-term l ts)
+-- By the term at the front, where one is read.
+unfoldable pub parsed : ℕ → List ℕ → Reading
+parsed l ts = used (read-term l ts)
 
--- By a row of so many terms at the front.
-unfoldable pub took-row : ℕ → ℕ → List ℕ → Reading
-took-row l count ts = used (read-row (read-within (length ts) l) count ts)
+-- By a row of so many terms at the front, where one is read.
+unfoldable pub parsed-row : ℕ → ℕ → List ℕ → Reading
+parsed-row l count ts = used (read-row (read-within (length ts) l) count ts)
 
 -- ---- The tokens
 
@@ -53,6 +53,11 @@ word-of (t ∷ ts) = cond (is-variable t) (bitOr (2 ^ (t - 1)) (word-of ts)) (wo
 pub data Outcome (A : Type 0) : Type 0 where
   reads : A → Outcome A
   refuses : Refusal → Outcome A
+
+-- Where something was read it goes on with that, else it stops with what is made of the refusal.
+unfoldable pub if-read : {A B : Type 0} → Outcome A → (Refusal → B) → (A → B) → B
+if-read (reads a) stop next = next a
+if-read (refuses r) stop next = stop r
 
 -- The one whole term, or 6.
 unfoldable pub term-or-6 : Option Term → Outcome Term

@@ -5,9 +5,18 @@ use tables::Refusal;
 ghost use mathlib.Core.Path.{_≡_};
 ghost use mathlib.Core.Bool.{true};
 ghost use Prim.Native.Nat.{_≤_};
-ghost use Rattle.terms.specs.Checks.{took, took-row, all-named, word-of, check-term, check-equation, checked};
+ghost use Rattle.terms.specs.Checks.{parsed, parsed-row, all-named, word-of, check-term, check-equation, checked};
 
-// How many tokens a term, or a row of terms, takes; or that there is none.
+// A token from here on, with the top bit 1, is a head; one below is the number of a variable.
+const FIRST_HEAD: u16 = 32768;
+
+// The arity of a head is in its lowest 4 bits: it is one of so many.
+const ARITIES: u16 = 16;
+
+// The most tokens of an equation.
+const TOKENS: usize = 1024;
+
+// How many tokens a term, or a row of terms, uses; or that there is none.
 enum Reading {
     Used(usize),
     NoTerm,
@@ -21,20 +30,20 @@ pub enum Checked {
 
 // Reads the term at the front of the tokens: a variable token alone, or a head and its row of arguments.
 fn read_term(ts: &[u16], l: u32) -> Reading
-    ensures { λ r. ⌜ r ≡ took l (now (ts .entry)) ⌝ }
+    ensures { λ r. ⌜ r ≡ parsed l (now (ts .entry)) ⌝ }
 {
     if ts.len() == 0 {
         return Reading::NoTerm;
     }
     let t = ts[0];
-    if t < 32768 {
+    if t < FIRST_HEAD {
         let x = t as u32;
         if (0 < x) & (x <= l) {
             return Reading::Used(1);
         }
         return Reading::NoTerm;
     }
-    let count = (t % 16) as usize;
+    let count = (t % ARITIES) as usize;
     match read_row(&ts[1..], count, l) {
         Reading::Used(n) => Reading::Used(n + 1),
         Reading::NoTerm => Reading::NoTerm,
@@ -43,7 +52,7 @@ fn read_term(ts: &[u16], l: u32) -> Reading
 
 // Reads a row of so many terms, one after another.
 fn read_row(ts: &[u16], count: usize, l: u32) -> Reading
-    ensures { λ r. ⌜ r ≡ took-row l count (now (ts .entry)) ⌝ }
+    ensures { λ r. ⌜ r ≡ parsed-row l count (now (ts .entry)) ⌝ }
 {
     if count == 0 {
         return Reading::Used(0);
@@ -66,7 +75,7 @@ fn all_named(ts: &[u16], l: u32) -> bool
     while i < ts.len() {
         let t = ts[i];
         let x = t as u32;
-        good = good & ((32768 <= t) | ((0 < x) & (x <= l)));
+        good = good & ((FIRST_HEAD <= t) | ((0 < x) & (x <= l)));
         i += 1;
     }
     good
@@ -81,7 +90,7 @@ fn variables(ts: &[u16], l: u32) -> u32
     let mut i = 0;
     while i < ts.len() {
         let t = ts[i];
-        if t < 32768 {
+        if t < FIRST_HEAD {
             let x = t as u32;
             set = set | (1u32 << (x - 1));
         }
@@ -115,7 +124,7 @@ pub fn check_equation(l: u32, x: u32, ts: &[u16]) -> Checked
     requires { ⌜ l ≤ 32 ⌝ }
     ensures { λ r. ⌜ r ≡ checked l (check-equation l x (now (ts .entry))) ⌝ }
 {
-    if 1024 < ts.len() {
+    if TOKENS < ts.len() {
         return Checked::Refused(Refusal::Long);
     }
     if !((0 < x) & (x <= l)) {

@@ -1,1 +1,5 @@
 pub mod Writing
+pub mod PartByPart
+pub mod Blocks
+pub mod RunByEquations
+pub mod LongestText

@@ -31,24 +31,29 @@ copy-turn out word at i lt =
     let e : at + (i + 1) ≡ suc (at + i) = omega arith in
     rw (e, add-one i) (sym (ap (sets out (at + i)) (drop-cons word i 0 lt)))
 
+-- After the last byte nothing is left.
 pub copy-end : (out word : List ℕ) (at i : ℕ) → length word ≤ i → out ≡ sets out (at + i) (drop i word)
 copy-end out word at i le = sym (ap (sets out (at + i)) (drop-of-length-le word {i = i} le))
 
 -- ---- Numbers
 
 module _ (n : ℕ) where
+  -- Below 10.
   pub one-digit : n < 10 → decimal n ≡ digit n ∷ []
   unfolding decimal
   one-digit h = rw (lt-ltb n 10 h)
 
+  -- From 10 on, below 100.
   pub two-digits : 10 ≤ n → n < 100 → decimal n ≡ digit (n / 10) ∷ digit (n % 10) ∷ []
   unfolding decimal
   two-digits g h = rw (le-ltb n 10 g, lt-ltb n 100 h)
 
+  -- From 100 on.
   pub three-digits : 100 ≤ n → decimal n ≡ digit (n / 100) ∷ digit (n / 10 % 10) ∷ digit (n % 10) ∷ []
   unfolding decimal
   three-digits g = rw (le-ltb n 10 (omega arith), le-ltb n 100 g)
 
+  -- At most three digits.
   pub decimal-most : length (decimal n) ≤ 3
   unfolding decimal
   decimal-most = go (ltb n 10) (ltb n 100)
@@ -59,6 +64,7 @@ module _ (n : ℕ) where
       go false true = omega arith
       go false false = omega arith
 
+-- The length of a line, as the code computes it.
 pub line-length : (v w : List ℕ) (a b : ℕ)
     → length (line v a w b) ≡ length v + (length (decimal a) + (length w + (length (decimal b) + 1)))
 unfolding line
@@ -78,17 +84,19 @@ line-written out v w a b at {first} {second} {third} {end} e₁ e₂ e₃ e₄ =
 
 -- ---- Entries
 
-pub fixed-zero : (c v : ℕ) → (c ≡ 0 → ⊥) → v ≡ 0 → 48 ≡ character (trit-of c v)
+-- A fixed position whose value is 0.
+pub fixed-zero : (c v : ℕ) → (c ≡ 0 → ⊥) → v ≡ 0 → digit 0 ≡ character (trit-of c v)
 fixed-zero zero v ne e = absurd (ne refl)
 fixed-zero (suc c) zero ne e = refl
 fixed-zero (suc c) (suc v) ne e = absurd (omega arith)
 
-pub fixed-one : (c v : ℕ) → (c ≡ 0 → ⊥) → (v ≡ 0 → ⊥) → 49 ≡ character (trit-of c v)
+-- A fixed position whose value is 1.
+pub fixed-one : (c v : ℕ) → (c ≡ 0 → ⊥) → (v ≡ 0 → ⊥) → digit 1 ≡ character (trit-of c v)
 fixed-one zero v ne f = absurd (ne refl)
 fixed-one (suc c) zero ne f = absurd (f refl)
 fixed-one (suc c) (suc v) ne f = refl
 
-pub entry-length : (s : Trits) → length (entry-text s) ≡ length s + 1
+entry-length : (s : Trits) → length (entry-text s) ≡ length s + 1
 unfolding entry-text
 entry-length [] = refl
 entry-length (t ∷ s) = omega (arith, entry-length s)
@@ -102,6 +110,7 @@ entry-turn out i end c v x lt e =
     let d : end - i ≡ suc (end - (i + 1)) = omega arith in
     rw (d, e, add-one i)
 
+-- After the last position the newline is left.
 pub entry-end : (out : List ℕ) (i end c v : ℕ) → i ≡ end
     → set out end newline ≡ sets out i (entry-text (string (end - i) (record { care = c; value = v })))
 unfolding entry-text string
@@ -114,13 +123,13 @@ module _ {t : Table} (good : GoodTable t) (i : ℕ) (lt : i < t .n) where
   abbrev here : Trits
   here = getD (entries-of t) i []
 
-  pub entries-from : drop i (entries-of t) ≡ here ∷ drop (i + 1) (entries-of t)
+  entries-from : drop i (entries-of t) ≡ here ∷ drop (i + 1) (entries-of t)
   entries-from =
       drop-cons (entries-of t) i [] (omega (arith, lt, good-holds good .count))
       ∙ ap (λ (k : ℕ). here ∷ drop k (entries-of t)) (sym (add-one i))
 
   -- the words at that index are its words
-  pub entry-here : string (t .l) (record { care = getD (t .care) i 0; value = getD (t .value) i 0 }) ≡ here
+  entry-here : string (t .l) (record { care = getD (t .care) i 0; value = getD (t .value) i 0 }) ≡ here
   entry-here =
       string-of-entry (t .l) _ here (stores-length (good-holds good) i lt) (stores-at (good-holds good) i lt)
 
@@ -133,6 +142,7 @@ module _ {t : Table} (good : GoodTable t) (i : ℕ) (lt : i < t .n) where
       ∙ ap (λ (k : ℕ). k + length (entries-text (drop (i + 1) (entries-of t))))
       (entry-length here ∙ ap (λ (k : ℕ). k + 1) (stores-length (good-holds good) i lt)))
 
+  -- One entry more.
   pub entries-turn : (out : List ℕ) (at : ℕ) {out′ : List ℕ}
       → out′ ≡ sets out at (entry-text (string (t .l) (record { care = getD (t .care) i 0; value = getD (t .value) i 0 })))
       → sets out′ (at + (t .l + 1)) (entries-text (drop (i + 1) (entries-of t)))
@@ -144,6 +154,7 @@ module _ {t : Table} (good : GoodTable t) (i : ℕ) (lt : i < t .n) where
       rw (e, entry-here, entries-from, ← long)
       (sym (sets-append (entry-text here) (entries-text (drop (i + 1) (entries-of t))) out at))
 
+-- After the last entry nothing is left.
 pub entries-end : {t : Table} → GoodTable t → (i : ℕ) → t .n ≤ i → entries-text (drop i (entries-of t)) ≡ []
 unfolding entries-text
 entries-end {t} good i le =

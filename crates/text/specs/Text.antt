@@ -12,7 +12,7 @@ newline = 10
 
 -- ---- Numbers
 
--- The character of a digit 0 to 9.
+-- The character of a digit 0 to 9; that of 0 is 48.
 abbrev pub digit : ℕ → ℕ
 digit d = 48 + d
 
@@ -29,11 +29,15 @@ line v a w b = v ++ (decimal a ++ (w ++ (decimal b ++ (newline ∷ []))))
 
 -- ---- Entries
 
+-- The character `*`.
+abbrev pub star : ℕ
+star = 42
+
 -- The character of a position.
 abbrev pub character : Trit → ℕ
-character t0 = 48
-character t1 = 49
-character t* = 42
+character t0 = digit 0
+character t1 = digit 1
+character t* = star
 
 -- An entry: its characters, position 1 first, and a newline.
 unfoldable pub entry-text : Trits → List ℕ

@@ -14,7 +14,7 @@ use Rattle.words.specs.Words.{zero-bit, value-bit, zeros-of, value-of, w
 use Rattle.words.proofs.Digits.{paired, nine}
 use Rattle.words.proofs.Halves.{value-half, zeros-half}
 use Rattle.words.proofs.Words.{clashing, word-clash}
-use Rattle.words.proofs.OpeningLaws.{ones-on, lone-ones}
+use Rattle.words.proofs.LackedBits.{ones-on, lone-ones}
 
 -- the positions in both halves
 abbrev both : Trits → Trits → ℕ

@@ -12,7 +12,7 @@ use lib.ListN.{length, getD}
 use Rattle.model.specs.Groups.{Bits}
 use Rattle.words.specs.Words.{set, set-word}
 use Rattle.words.proofs.Codec.{First, trailing-first, set-inside, set-length, set-word-set}
-use Rattle.words.proofs.OpeningLaws.{low-one, low-zero}
+use Rattle.words.proofs.LackedBits.{low-one, low-zero}
 
 -- the set without its first position
 unfoldable pub cleared : Bits → Bits

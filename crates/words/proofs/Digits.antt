@@ -100,8 +100,8 @@ on-digit-lt F f t u =
     (value-bit-lt u)
 
 -- two numbers by their last digits and the rests
-pub put : {a b c d : ℕ} → a ≡ b → c ≡ d → a * 2 + c ≡ b * 2 + d
-put p q = ap₂ (λ (x y : ℕ). x * 2 + y) p q
+pub digits-equal : {a b c d : ℕ} → a ≡ b → c ≡ d → a * 2 + c ≡ b * 2 + d
+digits-equal p q = ap₂ (λ (x y : ℕ). x * 2 + y) p q
 
 -- a claim about two strings of one length, position by position
 pub paired : (P : Trits → Trits → Type 0) → P [] []

@@ -11,7 +11,7 @@ use lib.Pow as pow
 use Rattle.model.specs.Strings.{Trit, t0, t1, t*, Trits}
 use Rattle.words.specs.Words.{care-bit, value-bit, zero-bit, care-of, value-of, zeros-of, word, high, low, halves}
 use Rattle.words.specs.Words.{fixed-word}
-use Rattle.words.proofs.Digits.{care-bit-lt, value-bit-lt, zero-bit-lt, put}
+use Rattle.words.proofs.Digits.{care-bit-lt, value-bit-lt, zero-bit-lt, digits-equal}
 use Rattle.words.proofs.Codec.{value-lt}
 
 -- zeros are care without value
@@ -20,7 +20,7 @@ unfolding care-of value-of zeros-of
 zeros-xor [] = refl
 zeros-xor (t ∷ s) =
     xor-block 1 (care-of s) (value-of s) (care-bit t) (value-bit t) (care-bit-lt t) (value-bit-lt t)
-    ∙ put (zeros-xor s) (digit t)
+    ∙ digits-equal (zeros-xor s) (digit t)
   where
     digit : (t : Trit) → bitXor (care-bit t) (value-bit t) ≡ zero-bit t
     digit t0 = refl
@@ -33,7 +33,7 @@ unfolding care-of value-of zeros-of
 cares-or [] = refl
 cares-or (t ∷ s) =
     or-block 1 (zeros-of s) (value-of s) (zero-bit t) (value-bit t) (zero-bit-lt t) (value-bit-lt t)
-    ∙ put (cares-or s) (digit t)
+    ∙ digits-equal (cares-or s) (digit t)
   where
     digit : (t : Trit) → bitOr (zero-bit t) (value-bit t) ≡ care-bit t
     digit t0 = refl
@@ -72,8 +72,8 @@ module _ (s : Trits) (short : length s ≤ 32) where
 -- ---- Halves of any word
 
 -- as `(z << 32) | o` comes into a goal
-pub joined : (z o : ℕ) → z < 2 ^ 32 → o < 2 ^ 32 → bitOr ((z * 2 ^ 32) % 2 ^ 64) o ≡ halves z o
-joined z o hz ho = ap (λ (x : ℕ). bitOr x o) (pow.shl-exact 32 32 64 hz (omega arith)) ∙ or-shifted z 32 o ho
+pub halves-or : (z o : ℕ) → z < 2 ^ 32 → o < 2 ^ 32 → bitOr ((z * 2 ^ 32) % 2 ^ 64) o ≡ halves z o
+halves-or z o hz ho = ap (λ (x : ℕ). bitOr x o) (pow.shl-exact 32 32 64 hz (omega arith)) ∙ or-shifted z 32 o ho
 
 -- the halves of any word have 32 bits
 pub high-lt : (a : ℕ) → a < 2 ^ 64 → high a < 2 ^ 32

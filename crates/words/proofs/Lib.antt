@@ -3,7 +3,7 @@ pub mod Codec
 pub mod Halves
 pub mod Words
 pub mod Positions
-pub mod Gather
-pub mod OpeningLaws
+pub mod GatheredBits
+pub mod LackedBits
 pub mod Clashes
 pub mod Clearing

@@ -2,19 +2,20 @@
 use mathlib.Core.Path.{_≡_, refl, ap, ap₂, _∙_}
 use mathlib.Core.Bool.{true, false, cond}
 use mathlib.Core.List.{[], _∷_, map}
-use Prim.Native.Nat.{ℕ, zero, suc, _+_, _*_, _%_, _^_, _<_, _≤_}
+use Prim.Native.Nat.{ℕ, zero, suc, _+_, _*_, _/_, _%_, _^_, _<_, _≤_}
 use native.Mathlib.Nat.{pow-suc}
 use native.Mathlib.Omega.{arith}
 use lib.Bits.{bitAnd, bitOr, bitXor, and-block, or-block, xor-block, and-lt, and-zero-l, and-zero-r, or-zero-r, xor-zero-r}
 use lib.Count.{ones, ones-cat}
-use lib.Dec.{lit<}
-use lib.ListN.{length, length-map}
+use lib.Dec.{eqb, lit<}
+use lib.ListN.{length, getD, length-map}
 use lib.Pow.{shl-exact, pow-lt}
 use Rattle.model.specs.Strings.{Trit, t0, t1, t*, Trits, fixed-digit, flip, fixed, fixed-count, flipped, starred, opposed}
 use Rattle.words.specs.Words.{value-bit, zero-bit, value-of, zeros-of, word, halves, both, flipped-word, starred-word}
-use Rattle.words.specs.Words.{opposed-word}
-use Rattle.words.proofs.Digits.{value-bit-lt, zero-bit-lt, put, nine, never, never′}
-use Rattle.words.proofs.Halves.{value-half, joined, Half, zeros-part, value-part}
+use Rattle.words.specs.Words.{opposed-word, care-of, set-word}
+use Rattle.words.proofs.Codec.{set-bit}
+use Rattle.words.proofs.Digits.{value-bit-lt, zero-bit-lt, digits-equal, nine, never, never′}
+use Rattle.words.proofs.Halves.{value-half, halves-or, Half, zeros-part, value-part}
 use Rattle.words.proofs.Words.{word-opposite}
 
 -- as `1 << i` comes into a goal
@@ -42,10 +43,31 @@ pub word-count : (s : Trits) → length s ≤ 32 → ones (word s) ≡ fixed-cou
 unfolding word
 word-count s short = ones-cat 32 (zeros-of s) (value-of s) (value-half s short) ∙ count-halves s
 
+-- ---- Which are fixed
+
+-- the care word is that of the set of fixed positions
+care-set : (s : Trits) → care-of s ≡ set-word (map fixed-digit s)
+unfolding care-of set-word
+care-set [] = refl
+care-set (t0 ∷ s) = digits-equal (care-set s) refl
+care-set (t1 ∷ s) = digits-equal (care-set s) refl
+care-set (t* ∷ s) = digits-equal (care-set s) refl
+
+-- position i of that set
+fixed-at : (i : ℕ) (s : Trits) → getD (map fixed-digit s) i false ≡ fixed i s
+unfolding fixed
+fixed-at i [] = refl
+fixed-at zero (t ∷ s) = refl
+fixed-at (suc i) (t ∷ s) = fixed-at i s
+
+-- position i is fixed where bit i of the care word is 1
+pub fixed-bit : (i : ℕ) (s : Trits) → eqb (care-of s / 2 ^ i % 2) 1 ≡ fixed i s
+fixed-bit i s = rw (care-set s) (set-bit (map fixed-digit s) i ∙ fixed-at i s)
+
 -- ---- A bit operation with the bit of one position, in one half
 
 -- the bit of the next position
-pow-digit : (i : ℕ) → 2 ^ suc i ≡ 2 ^ i * 2 + 0
+pub pow-digit : (i : ℕ) → 2 ^ suc i ≡ 2 ^ i * 2 + 0
 pow-digit i = omega (arith, pow-suc 2 i)
 
 module _ (bit : ℕ → ℕ → ℕ) (block : (a b r s : ℕ) → r < 2 → s < 2 → bit (a * 2 + r) (b * 2 + s) ≡ bit a b * 2 + bit r s) where
@@ -80,11 +102,11 @@ module _ (h : Half) where
   flip-half digit i [] k = never k
   flip-half digit zero (t ∷ s) k =
       rw (h .cons t s, h .cons (flip t) s)
-      (here bitXor (xor-block 1) (h .of s) (h .bit t) (h .small t) ∙ put (xor-zero-r (h .of s)) (digit t k))
+      (here bitXor (xor-block 1) (h .of s) (h .bit t) (h .small t) ∙ digits-equal (xor-zero-r (h .of s)) (digit t k))
   flip-half digit (suc i) (t ∷ s) k =
       rw (h .cons t s, h .cons t (flipped i s))
       (below bitXor (xor-block 1) i (h .of s) (h .bit t) (h .small t)
-      ∙ put (flip-half digit i s k) (xor-zero-r (h .bit t)))
+      ∙ digits-equal (flip-half digit i s k) (xor-zero-r (h .bit t)))
 
   -- the bit of a position cleared
   star-half : ((t : Trit) → without (h .bit t) 1 ≡ h .bit t*) → (i : ℕ) (s : Trits)
@@ -93,12 +115,13 @@ module _ (h : Half) where
   star-half digit i [] = rw (h .nil) (unfold without in ap (bitXor 0) (and-zero-l (2 ^ i)))
   star-half digit zero (t ∷ s) =
       rw (h .cons t s, h .cons t* s)
-      (here without without-block (h .of s) (h .bit t) (h .small t) ∙ put (without-zero (h .of s)) (digit t))
+      (here without without-block (h .of s) (h .bit t) (h .small t) ∙ digits-equal (without-zero (h .of s)) (digit t))
   star-half digit (suc i) (t ∷ s) =
       rw (h .cons t s, h .cons t (starred i s))
-      (below without without-block i (h .of s) (h .bit t) (h .small t) ∙ put (star-half digit i s) (without-zero (h .bit t)))
+      (below without without-block i (h .of s) (h .bit t) (h .small t)
+      ∙ digits-equal (star-half digit i s) (without-zero (h .bit t)))
 
-  -- the bit of a position of the opposite put in
+  -- with the bit of a position of the opposite
   oppose-half : ((u t : Trit) → fixed-digit t ≡ false → bitOr (h .bit t) (bitAnd (h .bit (flip u)) 1) ≡ h .bit (flip u))
       → (i : ℕ) (v y : Trits) → length y ≡ length v → fixed i y ≡ false
       → bitOr (h .of y) (bitAnd (h .of (map flip v)) (2 ^ i)) ≡ h .of (opposed i v y)
@@ -110,24 +133,24 @@ module _ (h : Half) where
       rw (h .cons t y, h .cons (flip u) (map flip v), h .cons (flip u) y)
       (ap (bitOr (h .of y * 2 + h .bit t))
       (here bitAnd (and-block 1) (h .of (map flip v)) (h .bit (flip u)) (h .small (flip u))
-      ∙ put (and-zero-r (h .of (map flip v))) refl)
+      ∙ digits-equal (and-zero-r (h .of (map flip v))) refl)
       ∙ or-block 1 (h .of y) 0 (h .bit t) (bitAnd (h .bit (flip u)) 1) (h .small t)
       (and-lt 1 (h .bit (flip u)) 1 (h .small (flip u)) (lit< tt))
-      ∙ put (or-zero-r (h .of y)) (digit u t k))
+      ∙ digits-equal (or-zero-r (h .of y)) (digit u t k))
   oppose-half digit (suc i) (u ∷ v) (t ∷ y) n k =
       rw (h .cons t y, h .cons (flip u) (map flip v), h .cons t (opposed i v y))
       (ap (bitOr (h .of y * 2 + h .bit t))
       (below bitAnd (and-block 1) i (h .of (map flip v)) (h .bit (flip u)) (h .small (flip u))
-      ∙ put refl (and-zero-r (h .bit (flip u))))
+      ∙ digits-equal refl (and-zero-r (h .bit (flip u))))
       ∙ or-block 1 (h .of y) (bitAnd (h .of (map flip v)) (2 ^ i)) (h .bit t) 0 (h .small t) (lit< tt)
-      ∙ put (oppose-half digit i v y (omega arith) k) (or-zero-r (h .bit t)))
+      ∙ digits-equal (oppose-half digit i v y (omega arith) k) (or-zero-r (h .bit t)))
 
 -- ---- And in the whole word
 
 -- as `(bit << 32) | bit` comes into a goal
-pub both-joined : (i : ℕ) → i < 32 → bitOr ((2 ^ i * 2 ^ 32) % 2 ^ 64) (2 ^ i) ≡ both i
+pub both-halves-or : (i : ℕ) → i < 32 → bitOr ((2 ^ i * 2 ^ 32) % 2 ^ 64) (2 ^ i) ≡ both i
 unfolding both
-both-joined i l = joined (2 ^ i) (2 ^ i) (pow-lt l) (pow-lt l)
+both-halves-or i l = halves-or (2 ^ i) (2 ^ i) (pow-lt l) (pow-lt l)
 
 module _ (i : ℕ) (l : i < 32) where
   -- the bits of a string's word at position i
@@ -176,7 +199,7 @@ module _ (i : ℕ) (l : i < 32) where
       value-digit t1 = refl
       value-digit t* = refl
 
-  -- the opposite of v at position i put in
+  -- with the opposite of v at position i
   pub word-opposed : (v y : Trits) → length y ≡ length v → length y ≤ 32 → fixed i y ≡ false
       → opposed-word i (word v) (word y) ≡ word (opposed i v y)
   unfolding opposed-word word

@@ -18,7 +18,8 @@ use Rattle.words.specs.Words.{value-bit, zero-bit, care-of, value-of, ze
 use Rattle.words.specs.Words.{care-bit, high, low, halves, fixed-word, subsumes-word, zero-word, starless, matches-word}
 use Rattle.words.specs.Words.{clash-word, or-word, opposite-word}
 use Rattle.words.proofs.Digits.{zero-bit-lt, value-bit-lt, Digitwise, zero-l, value-l, zero-r, value-r, and-of, paired}
-use Rattle.words.proofs.Digits.{care-bit-lt, nothing, nine, or-of, on-cons, put, never, eqb-block, eqb-digit, eqb-cons}
+use Rattle.words.proofs.Digits.{care-bit-lt, nothing, nine, or-of, on-cons, digits-equal, never, eqb-block, eqb-digit}
+use Rattle.words.proofs.Digits.{eqb-cons}
 use Rattle.words.proofs.Codec.{value-stars}
 use Rattle.words.proofs.Halves.{zeros-xor, cares-or, value-half, high-word, low-word, care-word}
 
@@ -190,7 +191,8 @@ meet-zeros =
     paired _ (λ m. refl)
     (λ t u s r e ih m.
     on-cons _ (or-of _ _ zero-l zero-r) t u s r
-    ∙ put (ih (both-true (match-digit t u) (matches s r) m .1)) (digit t u (both-true (match-digit t u) (matches s r) m .0)))
+    ∙ digits-equal (ih (both-true (match-digit t u) (matches s r) m .1))
+    (digit t u (both-true (match-digit t u) (matches s r) m .0)))
   where
     digit : (t u : Trit) → match-digit t u ≡ true → bitOr (zero-bit t) (zero-bit u) ≡ zero-bit (meet-digit t u)
     digit =
@@ -201,7 +203,7 @@ meet-values : (s t : Trits) → length s ≡ length t → bitOr (value-of s) (va
 unfolding meet value-of
 meet-values =
     paired _ refl
-    (λ t u s r e ih. on-cons _ (or-of _ _ value-l value-r) t u s r ∙ put ih (digit t u))
+    (λ t u s r e ih. on-cons _ (or-of _ _ value-l value-r) t u s r ∙ digits-equal ih (digit t u))
   where
     digit : (t u : Trit) → bitOr (value-bit t) (value-bit u) ≡ value-bit (meet-digit t u)
     digit = nine _ refl refl refl refl refl refl refl refl refl
@@ -209,7 +211,7 @@ meet-values =
 -- 0 where both are 0
 or-zeros : (s t : Trits) → length s ≡ length t → bitAnd (zeros-of s) (zeros-of t) ≡ zeros-of (or-strings s t)
 unfolding or-strings zeros-of
-or-zeros = paired _ refl (λ t u s r e ih. on-cons _ within-zeros t u s r ∙ put ih (digit t u))
+or-zeros = paired _ refl (λ t u s r e ih. on-cons _ within-zeros t u s r ∙ digits-equal ih (digit t u))
   where
     digit : (t u : Trit) → bitAnd (zero-bit t) (zero-bit u) ≡ zero-bit (or-digit t u)
     digit = nine _ refl refl refl refl refl refl refl refl refl
@@ -217,7 +219,7 @@ or-zeros = paired _ refl (λ t u s r e ih. on-cons _ within-zeros t u s r ∙ pu
 -- 1 where one is 1
 or-values : (s t : Trits) → length s ≡ length t → bitOr (value-of s) (value-of t) ≡ value-of (or-strings s t)
 unfolding or-strings value-of
-or-values = paired _ refl (λ t u s r e ih. on-cons _ (or-of _ _ value-l value-r) t u s r ∙ put ih (digit t u))
+or-values = paired _ refl (λ t u s r e ih. on-cons _ (or-of _ _ value-l value-r) t u s r ∙ digits-equal ih (digit t u))
   where
     digit : (t u : Trit) → bitOr (value-bit t) (value-bit u) ≡ value-bit (or-digit t u)
     digit = nine _ refl refl refl refl refl refl refl refl refl
@@ -263,17 +265,17 @@ module _ (s t : Trits) (e : length s ≡ length t) (short : length s ≤ 32) whe
 flip-zeros : (s : Trits) → value-of s ≡ zeros-of (map flip s)
 unfolding zeros-of value-of
 flip-zeros [] = refl
-flip-zeros (t0 ∷ s) = put (flip-zeros s) refl
-flip-zeros (t1 ∷ s) = put (flip-zeros s) refl
-flip-zeros (t* ∷ s) = put (flip-zeros s) refl
+flip-zeros (t0 ∷ s) = digits-equal (flip-zeros s) refl
+flip-zeros (t1 ∷ s) = digits-equal (flip-zeros s) refl
+flip-zeros (t* ∷ s) = digits-equal (flip-zeros s) refl
 
 -- the zeros become ones
 flip-values : (s : Trits) → zeros-of s ≡ value-of (map flip s)
 unfolding zeros-of value-of
 flip-values [] = refl
-flip-values (t0 ∷ s) = put (flip-values s) refl
-flip-values (t1 ∷ s) = put (flip-values s) refl
-flip-values (t* ∷ s) = put (flip-values s) refl
+flip-values (t0 ∷ s) = digits-equal (flip-values s) refl
+flip-values (t1 ∷ s) = digits-equal (flip-values s) refl
+flip-values (t* ∷ s) = digits-equal (flip-values s) refl
 
 -- so the word of the opposite has the halves exchanged
 pub word-opposite : (s : Trits) → length s ≤ 32 → opposite-word (word s) ≡ word (map flip s)

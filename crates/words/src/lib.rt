@@ -21,8 +21,11 @@ ghost use Rattle.words.specs.Words.{both as both-halves, flipped-word, s
 ghost use Rattle.words.specs.Words.{lone, near as near-string, openings as openings-string, openings-of, gather, cut-word};
 ghost use Rattle.words.specs.Words.{clash-word};
 
-// A half has 32 bits.
-const HALF: u64 = 4294967296;
+// A half has 32 bits: it is one of so many numbers.
+pub const HALF: u64 = 4294967296;
+
+// All 32 bits of the low half.
+pub const LOW: u64 = 4294967295;
 
 // As a table has a string: bit i of `care` is 1 where position i is fixed; bit i of `value` is its value there, and 0 where
 // it is `*`.
@@ -150,7 +153,7 @@ pub fn full(l: u32) -> u32
     requires { ⌜ l ≤ 32 ⌝ }
     ensures { λ r. ⌜ r ≡ 2 ^ l - 1 ⌝ }
 {
-    (((1u64 << l) - 1) % 4294967296) as u32
+    (((1u64 << l) - 1) % HALF) as u32
 }
 
 // Bit i in both halves.

@@ -1,8 +1,9 @@
+-- The side is the number's; the output is that of the call on bytes.
 use mathlib.Core.Path.{ap, _∙_}
 use borrow.Author.Needs.{needs}
 use Rattle.model.specs.Tables.{Side}
-use Rattle.byte_calls.specs.Calls.{equation-bytes}
-use Rattle.analyser.proofs.Handing.{putting}
+use Rattle.byte_calls.specs.ByteCalls.{equation-bytes}
+use Rattle.analyser.proofs.SameOutput.{output-same}
 use Rattle.analyser.proofs.sharing_equation.Statement.{statement}
 use Rattle.analyser.proofs.sharing_equation.Tie as tie
 
@@ -12,23 +13,23 @@ side-numbered-requires c κs = search needs
 equation-requires : tie.Need-equation-requires
 equation-requires c κs = search needs
 
-put-requires : tie.Need-put-requires
-put-requires c κs = search needs
+write-requires : tie.Need-write-requires
+write-requires c κs = search needs
 
 same-length : tie.Need-same-length
 same-length c = search needs
 
 returns : tie.Need-returns
 returns c =
-    let at-put = c .before .before in
-    let at-equation = at-put .before .before in
+    let at-write = c .before .before in
+    let at-equation = at-write .before .before in
     let at-side-numbered = at-equation .before in
     let at-start = at-side-numbered .before .before .before .before in
-    putting (at-start .args .out .now)
+    output-same (at-start .args .out .now)
     (at-equation .equation .ensures ∙ ap
     (λ (s : Side). equation-bytes s (at-start .args .table .now) (at-start .args .variable)
-    (at-start .args .term .now)) (at-side-numbered .side-numbered .ensures)) (at-put .put .ensures .0)
-    (at-put .put .ensures .1)
+    (at-start .args .term .now)) (at-side-numbered .side-numbered .ensures)) (at-write .write .ensures .0)
+    (at-write .write .ensures .1)
 
 pub sharing-equation-spec : {M : Type 1} → statement M
-sharing-equation-spec = tie.close (tie.spec side-numbered-requires equation-requires put-requires same-length returns)
+sharing-equation-spec = tie.close (tie.spec side-numbered-requires equation-requires write-requires same-length returns)

@@ -1,8 +1,9 @@
+-- The side is the number's; the output is that of the call on bytes.
 use mathlib.Core.Path.{ap, _∙_}
 use borrow.Author.Needs.{needs}
 use Rattle.model.specs.Tables.{Side}
-use Rattle.byte_calls.specs.Calls.{join-bytes}
-use Rattle.analyser.proofs.Handing.{putting}
+use Rattle.byte_calls.specs.ByteCalls.{join-bytes}
+use Rattle.analyser.proofs.SameOutput.{output-same}
 use Rattle.analyser.proofs.sharing_join.Statement.{statement}
 use Rattle.analyser.proofs.sharing_join.Tie as tie
 
@@ -12,21 +13,21 @@ side-numbered-requires c κs = search needs
 join-requires : tie.Need-join-requires
 join-requires c κs = search needs
 
-put-requires : tie.Need-put-requires
-put-requires c κs = search needs
+write-requires : tie.Need-write-requires
+write-requires c κs = search needs
 
 same-length : tie.Need-same-length
 same-length c = search needs
 
 returns : tie.Need-returns
 returns c =
-    let at-put = c .before .before in
-    let at-join = at-put .before .before in
+    let at-write = c .before .before in
+    let at-join = at-write .before .before in
     let at-side-numbered = at-join .before in
     let at-start = at-side-numbered .before .before .before .before in
-    putting (at-start .args .out .now)
+    output-same (at-start .args .out .now)
     (at-join .join .ensures ∙ ap (λ (s : Side). join-bytes s (at-start .args .first .now) (at-start .args .second .now))
-    (at-side-numbered .side-numbered .ensures)) (at-put .put .ensures .0) (at-put .put .ensures .1)
+    (at-side-numbered .side-numbered .ensures)) (at-write .write .ensures .0) (at-write .write .ensures .1)
 
 pub sharing-join-spec : {M : Type 1} → statement M
-sharing-join-spec = tie.close (tie.spec side-numbered-requires join-requires put-requires same-length returns)
+sharing-join-spec = tie.close (tie.spec side-numbered-requires join-requires write-requires same-length returns)

@@ -1,8 +1,9 @@
+-- The side is the number's; the output is that of the call on bytes.
 use mathlib.Core.Path.{ap, _∙_}
 use borrow.Author.Needs.{needs}
 use Rattle.model.specs.Tables.{Side}
-use Rattle.byte_calls.specs.Calls.{projection-bytes}
-use Rattle.analyser.proofs.Handing.{putting}
+use Rattle.byte_calls.specs.ByteCalls.{projection-bytes}
+use Rattle.analyser.proofs.SameOutput.{output-same}
 use Rattle.analyser.proofs.sharing_project.Statement.{statement}
 use Rattle.analyser.proofs.sharing_project.Tie as tie
 
@@ -12,22 +13,22 @@ side-numbered-requires c κs = search needs
 project-requires : tie.Need-project-requires
 project-requires c κs = search needs
 
-put-requires : tie.Need-put-requires
-put-requires c κs = search needs
+write-requires : tie.Need-write-requires
+write-requires c κs = search needs
 
 same-length : tie.Need-same-length
 same-length c = search needs
 
 returns : tie.Need-returns
 returns c =
-    let at-put = c .before .before in
-    let at-project = at-put .before .before in
+    let at-write = c .before .before in
+    let at-project = at-write .before .before in
     let at-side-numbered = at-project .before in
     let at-start = at-side-numbered .before .before .before in
-    putting (at-start .args .out .now)
+    output-same (at-start .args .out .now)
     (at-project .project .ensures ∙ ap
     (λ (s : Side). projection-bytes s (at-start .args .table .now) (at-start .args .keep))
-    (at-side-numbered .side-numbered .ensures)) (at-put .put .ensures .0) (at-put .put .ensures .1)
+    (at-side-numbered .side-numbered .ensures)) (at-write .write .ensures .0) (at-write .write .ensures .1)
 
 pub sharing-project-spec : {M : Type 1} → statement M
-sharing-project-spec = tie.close (tie.spec side-numbered-requires project-requires put-requires same-length returns)
+sharing-project-spec = tie.close (tie.spec side-numbered-requires project-requires write-requires same-length returns)

@@ -1,8 +1,9 @@
+-- A refusal of the reader is returned as it is; the table that was read goes to the call on values.
 use mathlib.Core.Path.{_∙_}
 use borrow.Author.Needs.{needs}
-use Rattle.sharing.specs.Calls.{side-of, change-side-call}
-use Rattle.byte_calls.specs.Calls.{change-side-bytes}
-use Rattle.byte_calls.proofs.Going.{read-refused, read-went}
+use Rattle.operations.specs.Operations.{side-of, change-side-call}
+use Rattle.byte_calls.specs.ByteCalls.{refuses-zero, change-side-bytes}
+use Rattle.byte_calls.proofs.AfterChecks.{read-refused, read-accepted}
 use Rattle.byte_calls.proofs.change_side.Statement.{statement}
 use Rattle.byte_calls.proofs.change_side.Tie as tie
 
@@ -27,7 +28,7 @@ returns c =
     let at-answer = c .before .before in
     let at-read-table = at-answer .before .before .before in
     let at-start = at-read-table .before .before in
-    c .refused .ensures ∙ read-refused (at-start .args .b .now) (at-read-table .read-table .ensures)
+    c .refused .ensures ∙ read-refused (at-start .args .b .now) (at-read-table .read-table .ensures) refuses-zero
     (change-side-call (side-of (at-start .args .side))) (at-answer .answer .given .1)
 
 returns-2 : tie.Need-returns-2
@@ -36,7 +37,7 @@ returns-2 c =
     let at-enum-told = c .before in
     let at-read-table = at-enum-told .before .before .before in
     let at-start = at-read-table .before .before in
-    c .change-side .ensures ∙ read-went (at-start .args .b .now) (at-read-table .read-table .ensures)
+    c .change-side .ensures ∙ read-accepted (at-start .args .b .now) (at-read-table .read-table .ensures) refuses-zero
     (change-side-call (side-of (at-start .args .side))) (at-enum-told .enum-told .given .1)
 
 pub change-side-spec : {M : Type 1} → statement M

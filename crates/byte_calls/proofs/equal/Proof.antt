@@ -1,8 +1,10 @@
+-- A refusal of either reader is returned as it is, the first's first; both tables go to the question on values.
 use mathlib.Core.Path.{_∙_}
 use borrow.Author.Needs.{needs}
+use Rattle.questions.specs.declared.Reply.the-variants.{Refused}
 use Rattle.questions.specs.Replies.{equal-call}
-use Rattle.byte_calls.specs.Calls.{ask-read, equal-bytes}
-use Rattle.byte_calls.proofs.Going.{ask-refused, ask-went}
+use Rattle.byte_calls.specs.ByteCalls.{after-read, equal-bytes}
+use Rattle.byte_calls.proofs.AfterChecks.{read-refused, read-accepted}
 use Rattle.byte_calls.proofs.equal.Statement.{statement}
 use Rattle.byte_calls.proofs.equal.Tie as tie
 
@@ -33,8 +35,8 @@ returns c =
     let at-answer = c .before in
     let at-read-table = at-answer .before .before .before in
     let at-start = at-read-table .before .before .before in
-    ask-refused (at-start .args .b .now) (at-read-table .read-table .ensures)
-    (λ t. ask-read (at-start .args .c .now) (equal-call t)) (at-answer .answer .given .1)
+    read-refused (at-start .args .b .now) (at-read-table .read-table .ensures) Refused
+    (λ t. after-read (at-start .args .c .now) Refused (equal-call t)) (at-answer .answer .given .1)
 
 returns-2 : tie.Need-returns-2
 unfolding equal-bytes
@@ -44,9 +46,10 @@ returns-2 c =
     let at-enum-told = at-read-table2 .before in
     let at-read-table = at-enum-told .before .before .before in
     let at-start = at-read-table .before .before .before in
-    ask-refused (at-start .args .c .now) (at-read-table2 .read-table2 .ensures) (equal-call _) (at-other .other .given .1)
-    ∙ ask-went (at-start .args .b .now) (at-read-table .read-table .ensures)
-    (λ t. ask-read (at-start .args .c .now) (equal-call t)) (at-enum-told .enum-told .given .1)
+    read-refused (at-start .args .c .now) (at-read-table2 .read-table2 .ensures) Refused (equal-call _)
+    (at-other .other .given .1)
+    ∙ read-accepted (at-start .args .b .now) (at-read-table .read-table .ensures) Refused
+    (λ t. after-read (at-start .args .c .now) Refused (equal-call t)) (at-enum-told .enum-told .given .1)
 
 returns-3 : tie.Need-returns-3
 unfolding equal-bytes
@@ -57,10 +60,10 @@ returns-3 c =
     let at-read-table = at-enum-told .before .before .before in
     let at-start = at-read-table .before .before .before in
     c .equal .ensures
-    ∙ ask-went (at-start .args .c .now) (at-read-table2 .read-table2 .ensures) (equal-call _)
+    ∙ read-accepted (at-start .args .c .now) (at-read-table2 .read-table2 .ensures) Refused (equal-call _)
     (at-enum-told2 .enum-told2 .given .1)
-    ∙ ask-went (at-start .args .b .now) (at-read-table .read-table .ensures)
-    (λ t. ask-read (at-start .args .c .now) (equal-call t)) (at-enum-told .enum-told .given .1)
+    ∙ read-accepted (at-start .args .b .now) (at-read-table .read-table .ensures) Refused
+    (λ t. after-read (at-start .args .c .now) Refused (equal-call t)) (at-enum-told .enum-told .given .1)
 
 pub equal-spec : {M : Type 1} → statement M
 equal-spec = tie.close

@@ -1,8 +1,9 @@
+-- A refusal of the reader is returned as it is; the table that was read goes to `equation_term`.
 use mathlib.Core.Path.{_∙_}
 use borrow.Author.Needs.{needs}
-use Rattle.sharing.specs.Calls.{side-of}
-use Rattle.byte_calls.specs.Calls.{equation-bytes, term-call}
-use Rattle.byte_calls.proofs.Going.{read-refused, read-went}
+use Rattle.operations.specs.Operations.{side-of}
+use Rattle.byte_calls.specs.ByteCalls.{refuses-zero, equation-bytes, term-call}
+use Rattle.byte_calls.proofs.AfterChecks.{read-refused, read-accepted}
 use Rattle.byte_calls.proofs.equation.Statement.{statement}
 use Rattle.byte_calls.proofs.equation.Tie as tie
 
@@ -27,7 +28,7 @@ returns c =
     let at-answer = c .before .before in
     let at-read-table = at-answer .before .before .before in
     let at-start = at-read-table .before .before .before in
-    c .refused .ensures ∙ read-refused (at-start .args .b .now) (at-read-table .read-table .ensures)
+    c .refused .ensures ∙ read-refused (at-start .args .b .now) (at-read-table .read-table .ensures) refuses-zero
     (λ t. term-call (side-of (at-start .args .side)) t (at-start .args .x) (at-start .args .term .now))
     (at-answer .answer .given .1)
 
@@ -37,7 +38,7 @@ returns-2 c =
     let at-enum-told = c .before in
     let at-read-table = at-enum-told .before .before .before in
     let at-start = at-read-table .before .before .before in
-    c .equation-term .ensures ∙ read-went (at-start .args .b .now) (at-read-table .read-table .ensures)
+    c .equation-term .ensures ∙ read-accepted (at-start .args .b .now) (at-read-table .read-table .ensures) refuses-zero
     (λ t. term-call (side-of (at-start .args .side)) t (at-start .args .x) (at-start .args .term .now))
     (at-enum-told .enum-told .given .1)
 

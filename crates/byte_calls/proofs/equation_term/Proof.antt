@@ -1,10 +1,11 @@
+-- The check of the table, then that of the bytes; at most 1024 tokens then stand at the front of the array.
 use mathlib.Core.Path.{_≡_, sym, _∙_}
 use native.Mathlib.Omega.{arith}
 use borrow.Author.Needs.{needs}
 use lib.ListN.{length}
 use lib.Seq.{length-take-le}
-use Rattle.sharing.specs.Calls.{side-of}
-use Rattle.byte_calls.proofs.Going.{term-stray, term-refused, term-went, bytes-few}
+use Rattle.operations.specs.Operations.{side-of}
+use Rattle.byte_calls.proofs.AfterChecks.{term-table-refused, term-bytes-refused, term-bytes-accepted, bytes-few}
 use Rattle.byte_calls.proofs.equation_term.Statement.{statement}
 use Rattle.byte_calls.proofs.equation_term.Tie as tie
 
@@ -55,7 +56,9 @@ slice-aggregate-equation-checked c =
 
 equation-checked-requires : tie.Need-equation-checked-requires
 equation-checked-requires c κs =
-    let at-enum-told = c .before .before .before .before .before .before in
+    let at-tokens-at = c .before .before in
+    let at-check-bytes = at-tokens-at .before .before .before in
+    let at-enum-told = at-check-bytes .before in
     at-enum-told .before .before .check .ensures .1 .0 (at-enum-told .enum-told .given .1)
 
 returns : tie.Need-returns
@@ -63,7 +66,7 @@ returns c =
     let at-r = c .before .before in
     let at-check = at-r .before .before in
     let at-start = at-check .before .before in
-    c .refused .ensures ∙ term-stray (side-of (at-start .args .side)) (at-start .args .t) (at-start .args .x)
+    c .refused .ensures ∙ term-table-refused (side-of (at-start .args .side)) (at-start .args .t) (at-start .args .x)
     (at-start .args .term .now) (sym (at-check .check .ensures .0) ∙ at-r .r .given .1)
 
 returns-2 : tie.Need-returns-2
@@ -73,7 +76,7 @@ returns-2 c =
     let at-enum-told = at-check-bytes .before in
     let at-check = at-enum-told .before .before in
     let at-start = at-check .before .before in
-    c .refused2 .ensures ∙ term-refused (side-of (at-start .args .side)) (at-start .args .t) (at-start .args .x)
+    c .refused2 .ensures ∙ term-bytes-refused (side-of (at-start .args .side)) (at-start .args .t) (at-start .args .x)
     (at-start .args .term .now) (sym (at-check .check .ensures .0) ∙ at-enum-told .enum-told .given .1)
     (sym (at-check-bytes .check-bytes .ensures) ∙ at-r2 .r2 .given .1)
 
@@ -85,7 +88,8 @@ returns-3 c =
     let at-enum-told = at-check-bytes .before in
     let at-check = at-enum-told .before .before in
     let at-start = at-check .before .before in
-    c .equation-checked .ensures ∙ term-went (side-of (at-start .args .side)) (at-start .args .t) (at-start .args .x)
+    c .equation-checked .ensures
+    ∙ term-bytes-accepted (side-of (at-start .args .side)) (at-start .args .t) (at-start .args .x)
     (at-start .args .term .now) (sym (at-check .check .ensures .0) ∙ at-enum-told .enum-told .given .1)
     (sym (at-check-bytes .check-bytes .ensures) ∙ at-enum-told2 .enum-told2 .given .1) (at-tokens-at .tokens-at .ensures)
 

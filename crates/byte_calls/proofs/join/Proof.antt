@@ -1,8 +1,9 @@
+-- A refusal of either reader is returned as it is, the first's first; both tables go to the call on values.
 use mathlib.Core.Path.{_∙_}
 use borrow.Author.Needs.{needs}
-use Rattle.sharing.specs.Calls.{side-of, join-call}
-use Rattle.byte_calls.specs.Calls.{after-read, join-bytes}
-use Rattle.byte_calls.proofs.Going.{read-refused, read-went}
+use Rattle.operations.specs.Operations.{side-of, join-call}
+use Rattle.byte_calls.specs.ByteCalls.{refuses-zero, after-read, join-bytes}
+use Rattle.byte_calls.proofs.AfterChecks.{read-refused, read-accepted}
 use Rattle.byte_calls.proofs.join.Statement.{statement}
 use Rattle.byte_calls.proofs.join.Tie as tie
 
@@ -39,8 +40,9 @@ returns c =
     let at-answer = c .before .before in
     let at-read-table = at-answer .before .before .before in
     let at-start = at-read-table .before .before .before in
-    c .refused .ensures ∙ read-refused (at-start .args .b .now) (at-read-table .read-table .ensures)
-    (λ t. after-read (at-start .args .c .now) (join-call (side-of (at-start .args .side)) t)) (at-answer .answer .given .1)
+    c .refused .ensures ∙ read-refused (at-start .args .b .now) (at-read-table .read-table .ensures) refuses-zero
+    (λ t. after-read (at-start .args .c .now) refuses-zero (join-call (side-of (at-start .args .side)) t))
+    (at-answer .answer .given .1)
 
 returns-2 : tie.Need-returns-2
 unfolding join-bytes
@@ -51,10 +53,10 @@ returns-2 c =
     let at-read-table = at-enum-told .before .before .before in
     let at-start = at-read-table .before .before .before in
     c .refused2 .ensures
-    ∙ read-refused (at-start .args .c .now) (at-read-table2 .read-table2 .ensures)
+    ∙ read-refused (at-start .args .c .now) (at-read-table2 .read-table2 .ensures) refuses-zero
     (join-call (side-of (at-start .args .side)) _) (at-other .other .given .1)
-    ∙ read-went (at-start .args .b .now) (at-read-table .read-table .ensures)
-    (λ t. after-read (at-start .args .c .now) (join-call (side-of (at-start .args .side)) t))
+    ∙ read-accepted (at-start .args .b .now) (at-read-table .read-table .ensures) refuses-zero
+    (λ t. after-read (at-start .args .c .now) refuses-zero (join-call (side-of (at-start .args .side)) t))
     (at-enum-told .enum-told .given .1)
 
 returns-3 : tie.Need-returns-3
@@ -66,10 +68,10 @@ returns-3 c =
     let at-read-table = at-enum-told .before .before .before in
     let at-start = at-read-table .before .before .before in
     c .join .ensures
-    ∙ read-went (at-start .args .c .now) (at-read-table2 .read-table2 .ensures)
+    ∙ read-accepted (at-start .args .c .now) (at-read-table2 .read-table2 .ensures) refuses-zero
     (join-call (side-of (at-start .args .side)) _) (at-enum-told2 .enum-told2 .given .1)
-    ∙ read-went (at-start .args .b .now) (at-read-table .read-table .ensures)
-    (λ t. after-read (at-start .args .c .now) (join-call (side-of (at-start .args .side)) t))
+    ∙ read-accepted (at-start .args .b .now) (at-read-table .read-table .ensures) refuses-zero
+    (λ t. after-read (at-start .args .c .now) refuses-zero (join-call (side-of (at-start .args .side)) t))
     (at-enum-told .enum-told .given .1)
 
 pub join-spec : {M : Type 1} → statement M

@@ -1,8 +1,9 @@
+-- A refusal of the reader is returned as it is; the table that was read goes to the call on values.
 use mathlib.Core.Path.{_∙_}
 use borrow.Author.Needs.{needs}
-use Rattle.sharing.specs.Calls.{side-of, projection-call}
-use Rattle.byte_calls.specs.Calls.{projection-bytes}
-use Rattle.byte_calls.proofs.Going.{read-refused, read-went}
+use Rattle.operations.specs.Operations.{side-of, projection-call}
+use Rattle.byte_calls.specs.ByteCalls.{refuses-zero, projection-bytes}
+use Rattle.byte_calls.proofs.AfterChecks.{read-refused, read-accepted}
 use Rattle.byte_calls.proofs.project.Statement.{statement}
 use Rattle.byte_calls.proofs.project.Tie as tie
 
@@ -27,7 +28,7 @@ returns c =
     let at-answer = c .before .before in
     let at-read-table = at-answer .before .before .before in
     let at-start = at-read-table .before .before in
-    c .refused .ensures ∙ read-refused (at-start .args .b .now) (at-read-table .read-table .ensures)
+    c .refused .ensures ∙ read-refused (at-start .args .b .now) (at-read-table .read-table .ensures) refuses-zero
     (λ t. projection-call (side-of (at-start .args .side)) t (at-start .args .keep)) (at-answer .answer .given .1)
 
 returns-2 : tie.Need-returns-2
@@ -36,7 +37,7 @@ returns-2 c =
     let at-enum-told = c .before in
     let at-read-table = at-enum-told .before .before .before in
     let at-start = at-read-table .before .before in
-    c .project .ensures ∙ read-went (at-start .args .b .now) (at-read-table .read-table .ensures)
+    c .project .ensures ∙ read-accepted (at-start .args .b .now) (at-read-table .read-table .ensures) refuses-zero
     (λ t. projection-call (side-of (at-start .args .side)) t (at-start .args .keep)) (at-enum-told .enum-told .given .1)
 
 pub project-spec : {M : Type 1} → statement M

@@ -1,3 +1,4 @@
+-- Loop: `total` is the sum of the first i numbers, and at most 65535 for each (`sum-turn`).
 use mathlib.Core.Path.{_≡_, refl}
 use Prim.Native.Nat.{_-_, _*_, _≤_}
 use native.Mathlib.Omega.{arith}

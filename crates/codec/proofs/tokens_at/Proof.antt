@@ -1,3 +1,4 @@
+-- Loop: `out` has the first i numbers, then zeros (`read-turn`).
 use mathlib.Core.Path.{_≡_, refl}
 use Prim.Native.Nat.{_-_, _≤_}
 use native.Mathlib.Omega.{arith}

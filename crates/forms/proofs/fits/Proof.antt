@@ -1,4 +1,5 @@
-use Rattle.forms.specs.Tables.{fits}
+-- Each extent is one test.
+use Rattle.forms.specs.TableForms.{fits}
 use borrow.Author.Needs.{needs}
 use Rattle.forms.proofs.fits.Statement.{statement}
 use Rattle.forms.proofs.fits.Tie as tie

@@ -1,3 +1,4 @@
+-- The row holds the entries that are written, so that growing them in order gives the table.
 use mathlib.Core.List.{[]}
 use mathlib.Core.Path.{sym, _∙_}
 use Prim.Native.Nat.{ℕ, _≤_}
@@ -6,7 +7,7 @@ use lib.ListN.{length-replicate}
 use borrow.Author.Tests.{not-true, not-false}
 use Rattle.tables.proofs.Checking.{width-most}
 use Rattle.lists.proofs.Holding.{holds-empty}
-use Rattle.forms.specs.Tables.{read-entries}
+use Rattle.forms.specs.TableForms.{read-entries}
 use borrow.Author.Needs.{needs}
 use Rattle.forms.proofs.read_entries.Statement.{statement}
 use Rattle.forms.proofs.read_entries.Tie as tie

@@ -1,3 +1,4 @@
+-- Each test that fails gives its refusal; where all are passed the entries are read.
 use mathlib.Core.Path.{sym, _∙_}
 use borrow.Author.Tests.{not-true, not-false}
 use lib.ListN.{length}

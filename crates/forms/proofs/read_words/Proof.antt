@@ -1,3 +1,4 @@
+-- Up to i the words of the row are those of the entries, and `good` says whether they are clean; a turn reads one more.
 use mathlib.Core.Path.{_≡_, sym, ap, _∙_}
 use mathlib.Core.Bool.{_&&_}
 use Prim.Native.Nat.{ℕ, _-_, _≤_, _<_}
@@ -9,7 +10,7 @@ use Rattle.tables.specs.Values.{clean, all-from, all-clean}
 use Rattle.tables.proofs.Scans.{all-scan, scan-start, scan-turn, scan-end}
 use Rattle.tables.proofs.Checking.{clean-hit}
 use Rattle.lists.proofs.Holding.{run-turn}
-use Rattle.forms.specs.Tables.{cares, values}
+use Rattle.forms.specs.TableForms.{cares, values}
 use Rattle.forms.proofs.Decoding.{written-at, entry-read, words-hold}
 use borrow.Author.Needs.{needs}
 use Rattle.forms.proofs.read_words.Statement.{statement}

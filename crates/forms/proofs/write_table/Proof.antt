@@ -1,3 +1,4 @@
+-- The four stores follow one another without a gap, so that together they are the form.
 use mathlib.Core.Path.{_≡_, sym, _∙_}
 use native.Mathlib.Omega.{arith}
 use borrow.Author.Needs.{needs}
@@ -34,55 +35,63 @@ add-if1 c = let few = good-few (good c) in search (needs, few)
 returns : tie.Need-returns
 returns c = write-narrow _ _ (accepted (c .before)) (c .if1 .taken)
 
-put-number-requires : tie.Need-put-number-requires
-put-number-requires c κs = search needs
-
-cast-put-number : tie.Need-cast-put-number
-cast-put-number c =
-    let few = good-few (good (c .before .before .before .before .before .before)) in search (needs, few)
-
-put-number-requires-2 : tie.Need-put-number-requires-2
-put-number-requires-2 c κs = search needs
+write-number-requires : tie.Need-write-number-requires
+write-number-requires c κs = search needs
 
 -- where the width is stored, from where the count is
-abbrev first-of : tie.After-put-number2 → tie.After-put-number
+abbrev first-of : tie.After-write-number2 → tie.After-write-number
 first-of c = c .before .before .before .before
 
 -- where the form fits, from there
-abbrev fitting : tie.After-put-number → tie.Else1
+abbrev fitting : tie.After-write-number → tie.Else1
 fitting c = c .before .before
 
-put-words-requires : tie.Need-put-words-requires
-put-words-requires c κs =
-    let at-put-number2 = c .before .before .before .before .before in
-    let at-put-number = first-of at-put-number2 in
-    let at-if1 = fitting at-put-number in
-    let few = good-few (good (at-if1 .before)) in (
-      few,
-      omega (arith, few, at-if1 .if1 .left, at-put-number .put-number .kept .0, at-put-number2 .put-number2 .kept .0),
-    )
+cast-write-number : tie.Need-cast-write-number
+cast-write-number c =
+    let at-write-number = c .before .before .before in
+    let few = good-few (good (fitting at-write-number .before)) in search (needs, few)
 
-mul-put-words : tie.Need-mul-put-words
-mul-put-words c = search needs
+write-number-requires-2 : tie.Need-write-number-requires-2
+write-number-requires-2 c κs = search needs
 
-add-put-words : tie.Need-add-put-words
-add-put-words c = search needs
-
-put-words-requires-2 : tie.Need-put-words-requires-2
-put-words-requires-2 c κs =
-    let at-put-words = c .before .before .before .before .before in
-    let at-put-number2 = at-put-words .before .before .before .before .before .before in
-    let at-put-number = first-of at-put-number2 in
-    let at-if1 = fitting at-put-number in
+write-words-requires : tie.Need-write-words-requires
+write-words-requires c κs =
+    let at-write-number2 = c .before .before .before .before .before in
+    let at-write-number = first-of at-write-number2 in
+    let at-if1 = fitting at-write-number in
     let few = good-few (good (at-if1 .before)) in (
       few,
       omega (
         arith,
         few,
         at-if1 .if1 .left,
-        at-put-number .put-number .kept .0,
-        at-put-number2 .put-number2 .kept .0,
-        at-put-words .put-words .kept .0,
+        at-write-number .write-number .kept .0,
+        at-write-number2 .write-number2 .kept .0,
+      ),
+    )
+
+mul-write-words : tie.Need-mul-write-words
+mul-write-words c = search needs
+
+add-write-words : tie.Need-add-write-words
+add-write-words c = search needs
+
+write-words-requires-2 : tie.Need-write-words-requires-2
+write-words-requires-2 c κs =
+    let at-write-words = c .before .before .before .before .before in
+    let at-lent2 = at-write-words .before in
+    let at-write-number2 = at-lent2 .before .before .before .before .before in
+    let at-write-number = first-of at-write-number2 in
+    let at-if1 = fitting at-write-number in
+    let few = good-few (good (at-if1 .before)) in (
+      few,
+      omega (
+        arith,
+        few,
+        at-if1 .if1 .left,
+        at-write-number .write-number .kept .0,
+        at-write-number2 .write-number2 .kept .0,
+        at-write-words .write-words .kept .0,
       ),
     )
 
@@ -94,26 +103,28 @@ same-length c = search needs
 
 returns-3 : tie.Need-returns-3
 returns-3 c =
-    let at-put-words2 = c .before .before in
-    let at-put-words = at-put-words2 .before .before .before .before .before .before in
-    let at-put-number2 = at-put-words .before .before .before .before .before .before in
-    let at-put-number = first-of at-put-number2 in
-    let at-if1 = fitting at-put-number in
+    let at-write-words2 = c .before .before in
+    let at-lent4 = at-write-words2 .before in
+    let at-write-words = at-lent4 .before .before .before .before .before in
+    let at-lent2 = at-write-words .before in
+    let at-write-number2 = at-lent2 .before .before .before .before .before in
+    let at-write-number = first-of at-write-number2 in
+    let at-if1 = fitting at-write-number in
     let at-enum-told = at-if1 .before in
     let a = at-enum-told .before .before .before .before .args in
     let g = good at-enum-told in (
       write-fits (a .t1) (a .out .now) (accepted at-enum-told) (at-if1 .if1 .left),
       rw (
-        at-put-words2 .put-words2 .ensures,
-        at-put-words .put-words .ensures,
-        at-put-number2 .put-number2 .ensures,
-        at-put-number .put-number .ensures,
+        at-write-words2 .write-words2 .ensures,
+        at-write-words .write-words .ensures,
+        at-write-number2 .write-number2 .ensures,
+        at-write-number .write-number .ensures,
       )
           (stored (a .t1) (a .out .now) (good-cares g) (good-values g) (at-if1 .if1 .left)),
     )
 
 pub write-table-spec : {M : Type 1} → statement M
 write-table-spec = tie.close
-    (tie.spec check-requires enum-known-r enum-told mul-if1 add-if1 returns put-number-requires cast-put-number
-    put-number-requires-2 put-words-requires mul-put-words add-put-words put-words-requires-2 returns-2 same-length
+    (tie.spec check-requires enum-known-r enum-told mul-if1 add-if1 returns write-number-requires cast-write-number
+    write-number-requires-2 write-words-requires mul-write-words add-write-words write-words-requires-2 returns-2 same-length
     returns-3)

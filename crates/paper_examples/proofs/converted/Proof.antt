@@ -1,8 +1,8 @@
-use mathlib.Core.Path.{sym, ap, _∙_}
+-- The words fit into the array.
+use mathlib.Core.Path.{sym}
+use native.Mathlib.Omega.{arith}
 use borrow.Author.Needs.{needs}
 use lib.Seq.{length-take-le}
-use Rattle.sharing.specs.Calls.{convert-call}
-use Rattle.paper_examples.proofs.TextLaws.{words-fit, words-are}
 use Rattle.paper_examples.proofs.converted.Statement.{statement}
 use Rattle.paper_examples.proofs.converted.Tie as tie
 
@@ -10,20 +10,18 @@ read-table-requires : tie.Need-read-table-requires
 read-table-requires c κs = search needs
 
 array-share-prefix-words : tie.Need-array-share-prefix-words
-array-share-prefix-words c = words-fit _ _ _ (c .before .read-table .ensures)
+array-share-prefix-words c = let e = c .before .read-table .ensures in omega (arith, e .0, e .1)
 
 slice-aggregate-convert : tie.Need-slice-aggregate-convert
 slice-aggregate-convert c =
-    let at-read = c .before .before in
-    sym (length-take-le _ (at-read .read-table .result .value) (words-fit _ _ _ (at-read .read-table .ensures)))
+    let read = c .before .before .read-table in
+    sym (length-take-le _ (read .result .value) (omega (arith, read .ensures .0, read .ensures .1)))
 
 convert-requires : tie.Need-convert-requires
 convert-requires c κs = search needs
 
 returns : tie.Need-returns
-returns c =
-    let at-read = c .before .before .before in
-    c .convert .ensures ∙ ap (convert-call _) (words-are _ _ _ (at-read .read-table .ensures))
+returns c = search needs
 
 pub converted-spec : {M : Type 1} → statement M
 converted-spec =

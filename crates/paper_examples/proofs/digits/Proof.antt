@@ -1,18 +1,21 @@
+-- The index stays below 16.
+use mathlib.Core.Path.{_≡_}
+use Prim.Native.Nat.{_≤_}
 use mathlib.Core.Logic.{⊎-elim}
+use lib.ListN.{length, length-set}
 use native.Mathlib.Omega.{arith}
 use borrow.Author.Needs.{needs}
-use Rattle.paper_examples.proofs.DigitLaws.{Digits, digits-start, digits-one, digits-none, digits-long, digits-end}
 use Rattle.paper_examples.proofs.digits.Statement.{statement}
 use Rattle.paper_examples.proofs.digits.Tie as tie
 
 abbrev Inv-loop : tie.InvT-loop
-Inv-loop l k out₀ left₀ i₀ out left i = Digits l k out left i
+Inv-loop l k out₀ left₀ i₀ out left i = (i ≤ 16) × (length out ≡ 16)
 
 abbrev μ-loop : tie.MeasureT-loop
 μ-loop l k out₀ left₀ i₀ out left i = i
 
 loop-holds : tie.Need-loop-holds Inv-loop μ-loop
-loop-holds c = digits-start _ _ (c .pre)
+loop-holds c = search needs
 
 sub-i : tie.Need-sub-i Inv-loop μ-loop
 sub-i c = search needs
@@ -25,16 +28,13 @@ loop-less c = search needs
 
 loop-again : tie.Need-loop-again Inv-loop μ-loop
 loop-again c =
-    let at-loop = c .before .before in
-    let so-far = at-loop .loop .inv in
-    ⊎-elim (λ v. rw (v .1) (digits-one so-far (omega arith) (v .0 .taken)))
-    (λ v. rw (v .1) (digits-none so-far (omega arith) (v .0 .left)))
-    (c .if1 .came)
+    let so-far = c .before .before .loop .inv in (
+      omega arith,
+      ⊎-elim (λ v. rw (v .1, length-set) (so-far .1)) (λ v. rw (v .1) (so-far .1)) (c .if1 .came),
+    )
 
 returns : tie.Need-returns Inv-loop μ-loop
-returns c =
-    let at-loop = c .before in
-    (digits-long (at-loop .loop .inv) (at-loop .before .pre), digits-end (at-loop .loop .inv) (omega arith))
+returns c = c .before .loop .inv .1
 
 pub digits-spec : {M : Type 1} → statement M
 digits-spec =

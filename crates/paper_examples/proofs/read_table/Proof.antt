@@ -1,13 +1,25 @@
-use mathlib.Core.Path.{refl}
-use Prim.Native.Nat.{_-_, _≤_}
+-- Each string is within the text, and there are few.
+use mathlib.Core.Path.{_≡_}
+use Prim.Native.Nat.{ℕ, suc, _+_, _-_, _*_, _/_, _≤_, _<_}
+use native.Mathlib.Nat.{le-div-iff-mul-le, div-le-self, suc-mul}
 use native.Mathlib.Omega.{arith}
 use borrow.Author.Needs.{needs}
-use Rattle.paper_examples.proofs.TextLaws.{Written, string-inside, strings-few, write-start, write-turn, write-end}
+use lib.ListN.{length}
 use Rattle.paper_examples.proofs.read_table.Statement.{statement}
 use Rattle.paper_examples.proofs.read_table.Tie as tie
 
+-- string i is within a text of n bytes
+string-inside : (l n i : ℕ) → i < (n + 2) / (l + 2) → i * (l + 2) + l ≤ n
+string-inside l n i lt =
+    let h = le-div-iff-mul-le {k = l + 2} {x = suc i} {y = n + 2} (omega arith) .0 lt in
+    omega (arith, suc-mul i (l + 2))
+
+-- a short text has few strings
+strings-few : (l n : ℕ) → n ≤ 254 → (n + 2) / (l + 2) ≤ 256
+strings-few l n h = omega (arith, div-le-self (n + 2) (l + 2))
+
 abbrev Inv-loop : tie.InvT-loop
-Inv-loop l text step n care₀ value₀ i₀ care value i = (i ≤ n) × Written l text care value i
+Inv-loop l text step n care₀ value₀ i₀ care value i = (i ≤ n) × (length value ≡ 256)
 
 abbrev μ-loop : tie.MeasureT-loop
 μ-loop l text step n care₀ value₀ i₀ care value i = n - i
@@ -22,7 +34,7 @@ div-n : tie.Need-div-n Inv-loop μ-loop
 div-n c = search needs
 
 loop-holds : tie.Need-loop-holds Inv-loop μ-loop
-loop-holds c = (omega arith, write-start _ _)
+loop-holds c = search needs
 
 mul-read-string : tie.Need-mul-read-string Inv-loop μ-loop
 mul-read-string c =
@@ -63,16 +75,10 @@ loop-less : tie.Need-loop-less Inv-loop μ-loop
 loop-less c = search needs
 
 loop-again : tie.Need-loop-again Inv-loop μ-loop
-loop-again c =
-    let at-loop = c .before .before in
-    let start = at-loop .before .before in
-    let lt = c .before .loop-test .taken in
-    (omega arith, write-turn _ _ (at-loop .loop .inv .1) (start .pre .2) lt _ (c .read-string .ensures))
+loop-again c = search needs
 
 returns : tie.Need-returns Inv-loop μ-loop
-returns c =
-    let at-loop = c .before in
-    write-end _ _ (at-loop .loop .inv .1) _ (at-loop .before .before .pre .2) refl (omega arith)
+returns c = let at-loop = c .before in (strings-few _ _ (at-loop .before .before .pre .2), at-loop .loop .inv .1)
 
 pub read-table-spec : {M : Type 1} → statement M
 read-table-spec =

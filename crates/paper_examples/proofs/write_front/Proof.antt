@@ -1,3 +1,4 @@
+-- The part is within the text.
 use mathlib.Core.Path.{sym}
 use borrow.Author.Needs.{needs}
 use lib.Seq.{length-take-le}

@@ -1,3 +1,4 @@
+-- Each turn takes the next string of l digits.
 use Prim.Native.Nat.{_-_}
 use borrow.Author.Needs.{needs}
 use Rattle.paper_examples.proofs.write_groups.Statement.{statement}

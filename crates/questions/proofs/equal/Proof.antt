@@ -1,6 +1,8 @@
+-- The two checks and the test of the widths come in the order of the definition; the reply is that of `equal_checked`.
 use mathlib.Core.Path.{sym, _∙_}
 use borrow.Author.Tests.{eq-eqb, ne-eqb}
-use Rattle.questions.specs.Replies.{after-check, equal-call}
+use Rattle.tables.specs.Refusals.{if-accepted}
+use Rattle.questions.specs.Replies.{equal-call}
 use borrow.Author.Needs.{needs}
 use Rattle.questions.proofs.equal.Statement.{statement}
 use Rattle.questions.proofs.equal.Tie as tie
@@ -23,8 +25,8 @@ enum-known-r-2 c = search needs
 enum-told-2 : tie.Need-enum-told-2
 enum-told-2 c = search needs
 
-same-groups-requires : tie.Need-same-groups-requires
-same-groups-requires c κs =
+equal-checked-requires : tie.Need-equal-checked-requires
+equal-checked-requires c κs =
     let at-enum-told2 = c .before .before .before in
     let at-check2 = at-enum-told2 .before .before in
     let at-enum-told = at-check2 .before in
@@ -38,11 +40,11 @@ replied-requires : tie.Need-replied-requires
 replied-requires c κs = search needs
 
 returns : tie.Need-returns
-unfolding equal-call after-check
+unfolding equal-call if-accepted
 returns c = rw (sym (c .before .before .before .check .ensures .0) ∙ c .before .r .given .1)
 
 returns-2 : tie.Need-returns-2
-unfolding equal-call after-check
+unfolding equal-call if-accepted
 returns-2 c =
     let at-check2 = c .before .before .before in
     let at-enum-told = at-check2 .before in
@@ -53,7 +55,7 @@ returns-2 c =
     )
 
 returns-3 : tie.Need-returns-3
-unfolding equal-call after-check
+unfolding equal-call if-accepted
 returns-3 c =
     let at-if1 = c .before .before in
     let at-enum-told2 = at-if1 .before .before .before in
@@ -62,14 +64,14 @@ returns-3 c =
     let at-check = at-enum-told .before .before in
     rw (
       c .replied .ensures,
-      c .before .same-groups .ensures,
+      c .before .equal-checked .ensures,
       sym (at-check .check .ensures .0) ∙ at-enum-told .enum-told .given .1,
       sym (at-check2 .check2 .ensures .0) ∙ at-enum-told2 .enum-told2 .given .1,
       eq-eqb _ _ (at-if1 .if1 .taken),
     )
 
 returns-4 : tie.Need-returns-4
-unfolding equal-call after-check
+unfolding equal-call if-accepted
 returns-4 c =
     let at-enum-told2 = c .before .before .before in
     let at-check2 = at-enum-told2 .before .before in
@@ -85,5 +87,5 @@ pub equal-spec : {M : Type 1} → statement M
 equal-spec =
     tie.close
     (tie.spec
-    check-requires enum-known-r enum-told check-requires-2 enum-known-r-2 enum-told-2 same-groups-requires
+    check-requires enum-known-r enum-told check-requires-2 enum-known-r-2 enum-told-2 equal-checked-requires
     replied-requires returns returns-2 returns-3 returns-4)

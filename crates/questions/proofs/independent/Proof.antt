@@ -1,8 +1,10 @@
+-- A set has no bit above l exactly where it is at most the word of all l bits; the reply is that of `independent_checked`.
 use mathlib.Core.Path.{_≡_, sym, _∙_}
 use mathlib.Core.Bool.{true, false}
-use Rattle.questions.specs.Replies.{after-check, good-sets, independent-call}
-use Rattle.questions.proofs.Asking.{sets-test, sets-below}
-use Rattle.sharing.proofs.Answers.{good-wide}
+use Rattle.tables.specs.Refusals.{if-accepted}
+use Rattle.questions.specs.Replies.{good-sets, independent-call}
+use Rattle.questions.proofs.Tests.{sets-test, sets-below}
+use Rattle.operations.proofs.Checked.{good-wide}
 use borrow.Author.Needs.{needs}
 use Rattle.questions.proofs.independent.Statement.{statement}
 use Rattle.questions.proofs.independent.Tie as tie
@@ -19,8 +21,8 @@ enum-told c = search needs
 full-requires : tie.Need-full-requires
 full-requires c κs = good-wide (c .before .before .check .ensures .1 .0 (c .enum-told .given .1))
 
-unrelated-requires : tie.Need-unrelated-requires
-unrelated-requires c κs =
+independent-checked-requires : tie.Need-independent-checked-requires
+independent-checked-requires c κs =
     let s = sets-below _ _ _ (sym (sets-test _ _ _ _ (c .before .full .ensures)) ∙ c .if1 .taken) in
     (c .before .before .before .before .check .ensures .1 .0 (c .before .before .enum-told .given .1), s .0, s .1)
 
@@ -28,11 +30,11 @@ replied-requires : tie.Need-replied-requires
 replied-requires c κs = search needs
 
 returns : tie.Need-returns
-unfolding independent-call after-check
+unfolding independent-call if-accepted
 returns c = rw (sym (c .before .before .before .check .ensures .0) ∙ c .before .r .given .1)
 
 returns-2 : tie.Need-returns-2
-unfolding independent-call after-check
+unfolding independent-call if-accepted
 returns-2 c =
     let at-if1 = c .before .before in
     let at-full = at-if1 .before in
@@ -44,13 +46,13 @@ returns-2 c =
     sym (sets-test _ _ _ _ (at-full .full .ensures)) ∙ at-if1 .if1 .taken in
     rw (
       c .replied .ensures,
-      c .before .unrelated .ensures,
+      c .before .independent-checked .ensures,
       sym (at-check .check .ensures .0) ∙ at-enum-told .enum-told .given .1,
       s,
     )
 
 returns-3 : tie.Need-returns-3
-unfolding independent-call after-check
+unfolding independent-call if-accepted
 returns-3 c =
     let a = c .before .before .before .before .before .args in
     let s : good-sets (a .t .l) (a .a) (a .b) ≡ false =
@@ -61,5 +63,5 @@ pub independent-spec : {M : Type 1} → statement M
 independent-spec =
     tie.close
     (tie.spec
-    check-requires enum-known-r enum-told full-requires unrelated-requires replied-requires returns returns-2
+    check-requires enum-known-r enum-told full-requires independent-checked-requires replied-requires returns returns-2
     returns-3)

@@ -1,3 +1,4 @@
+-- By cases on the answer.
 use Rattle.questions.specs.Replies.{replies}
 use Rattle.questions.proofs.replied.Statement.{statement}
 use Rattle.questions.proofs.replied.Tie as tie

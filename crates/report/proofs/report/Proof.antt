@@ -1,3 +1,4 @@
+-- Above 4096 bytes, an unread table, or the rest of the input: each way is one law of the whole.
 use native.Mathlib.Omega.{arith}
 use Rattle.report.proofs.Inputs.{input-long, input-rest, input-refused, input-good, input-room, input-goes}
 use borrow.Author.Needs.{needs}
@@ -16,8 +17,8 @@ returns c =
     let at-if1 = at-refuse .before .before in
     let at-start = at-if1 .before .before .before in
     let same = input-long (at-start .args .input .now) (at-if1 .if1 .taken) in
-    let told = at-refuse .refuse .ensures in
-    (rw (same .0, same .1) at (told .0), rw (same .1) at (told .1))
+    let reported = at-refuse .refuse .ensures in
+    (rw (same .0, same .1) at (reported .0), rw (same .1) at (reported .1))
 
 read-table-requires : tie.Need-read-table-requires
 read-table-requires c κs = search needs
@@ -90,8 +91,8 @@ returns-2 c =
     let at-start = at-if1 .before .before .before in
     let same = input-refused (at-start .args .input .now) (at-if1 .if1 .left) (at-read-table .read-table .ensures)
     (at-answer .answer .given .1) in
-    let told = at-refuse2 .refuse2 .ensures in
-    (rw (same .0, same .1) at (told .0), rw (same .1) at (told .1))
+    let reported = at-refuse2 .refuse2 .ensures in
+    (rw (same .0, same .1) at (reported .0), rw (same .1) at (reported .1))
 
 same-length-3 : tie.Need-same-length-3
 same-length-3 c = search needs
@@ -106,9 +107,9 @@ returns-3 c =
     let at-start = at-if1 .before .before .before in
     let same = input-goes (at-start .args .input .now) (at-if1 .if1 .left) (at-read-table .read-table .ensures)
     (at-enum-told .enum-told .given .1) in
-    let told = rw (input-rest (at-start .args .input .now) _ (at-number-at .number-at .ensures)) at (at-report-rest
+    let reported = rw (input-rest (at-start .args .input .now) _ (at-number-at .number-at .ensures)) at (at-report-rest
     .report-rest .ensures) in
-    (rw (same .0, same .1) at (told .0), rw (same .1) at (told .1))
+    (rw (same .0, same .1) at (reported .0), rw (same .1) at (reported .1))
 
 pub report-spec : {M : Type 1} → statement M
 report-spec = tie.close

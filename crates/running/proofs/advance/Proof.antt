@@ -1,6 +1,7 @@
+-- A refusal keeps the whole state; else the table is the one after the equation, and one more is counted.
 use mathlib.Core.Path.{_∙_}
 use borrow.Author.Needs.{needs}
-use Rattle.running.proofs.Steps.{advance-refused, advance-accepted}
+use Rattle.running.proofs.Advancing.{advance-refused, advance-accepted}
 use Rattle.running.proofs.advance.Statement.{statement}
 use Rattle.running.proofs.advance.Tie as tie
 
@@ -28,9 +29,9 @@ returns c =
     let at-equation-term = at-answer .before .before .before in
     let at-side-numbered = at-equation-term .before in
     let at-start = at-side-numbered .before .before .before in
-    let told = advance-refused (at-start .args .s) (at-start .args .x) (at-start .args .term .now)
+    let law = advance-refused (at-start .args .s) (at-start .args .x) (at-start .args .term .now)
     (at-side-numbered .side-numbered .ensures) (at-equation-term .equation-term .ensures) (at-answer .answer .given .1) in
-    (c .refusal-number .ensures ∙ told .0, told .1)
+    (c .refusal-number .ensures ∙ law .0, law .1)
 
 returns-2 : tie.Need-returns-2
 returns-2 c =
@@ -38,9 +39,10 @@ returns-2 c =
     let at-equation-term = at-enum-told .before .before .before in
     let at-side-numbered = at-equation-term .before in
     let at-start = at-side-numbered .before .before .before in
-    let told = advance-accepted (at-start .args .s) (at-start .args .x) (at-start .args .term .now)
-    (at-side-numbered .side-numbered .ensures) (at-equation-term .equation-term .ensures) (at-enum-told .enum-told .given .1) in
-    rw (c .one-more .ensures) told
+    let law = advance-accepted (at-start .args .s) (at-start .args .x) (at-start .args .term .now)
+    (at-side-numbered .side-numbered .ensures) (at-equation-term .equation-term .ensures)
+    (at-enum-told .enum-told .given .1) in
+    rw (c .one-more .ensures) law
 
 pub advance-spec : {M : Type 1} → statement M
 advance-spec =

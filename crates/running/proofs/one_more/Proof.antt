@@ -1,3 +1,4 @@
+-- Below the largest count it is one more; there it stays.
 use borrow.Author.Tests.{lt-ltb, le-ltb}
 use borrow.Author.Needs.{needs}
 use Rattle.running.specs.States.{one-more}

@@ -1,3 +1,4 @@
+-- The state holds the number of the reading and its table, and no equation is counted.
 use borrow.Author.Needs.{needs}
 use Rattle.running.specs.States.{started}
 use Rattle.running.proofs.start.Statement.{statement}

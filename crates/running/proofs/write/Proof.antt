@@ -1,3 +1,4 @@
+-- The table of the state is written, and the number is that of the answer.
 use borrow.Author.Needs.{needs}
 use Rattle.running.specs.States.{state-number, state-bytes}
 use Rattle.running.proofs.write.Statement.{statement}

@@ -1,3 +1,4 @@
+-- What was read is within the input, and what is written within the text.
 use Rattle.report.proofs.Within.{report-within}
 use borrow.Author.Needs.{needs}
 use Rattle.sharerun.proofs.main.Statement.{statement}

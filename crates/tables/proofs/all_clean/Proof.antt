@@ -1,3 +1,4 @@
+-- Loop: `good`, and the test of the entries from i on, are the test of all (laws of `all-scan`).
 use mathlib.Core.Path.{_≡_}
 use mathlib.Core.Bool.{_&&_}
 use Prim.Native.Nat.{_-_, _≤_}

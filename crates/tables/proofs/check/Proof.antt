@@ -1,9 +1,10 @@
+-- One return for each test, in the definition's order: `check-refused` where one fails, `check-accepted` where all hold.
 use mathlib.Core.Bool.{true}
 use mathlib.Core.Path.{_≡_, sym, _∙_}
 use native.Mathlib.Omega.{arith}
 use borrow.Author.Tests.{not-true, not-false, le-leb, lt-leb}
 use Rattle.tables.specs.Values.{good-width, all-clean, check-table}
-use Rattle.tables.proofs.Checking.{width-most, told-refused, told-accepted}
+use Rattle.tables.proofs.Checking.{width-most, check-refused, check-accepted}
 use borrow.Author.Needs.{needs}
 use Rattle.tables.proofs.check.Statement.{statement}
 use Rattle.tables.proofs.check.Tie as tie
@@ -30,11 +31,11 @@ scanned c = c .before .before .before .before
 
 returns : tie.Need-returns
 unfolding check-table
-returns c = told-refused _ (rw (sym (c .before .good-width .ensures) ∙ not-true _ (c .if1 .taken)))
+returns c = check-refused _ (rw (sym (c .before .good-width .ensures) ∙ not-true _ (c .if1 .taken)))
 
 returns-2 : tie.Need-returns-2
 unfolding check-table
-returns-2 c = told-refused _ (rw (wide (c .before), lt-leb _ 256 (c .if2 .taken)))
+returns-2 c = check-refused _ (rw (wide (c .before), lt-leb _ 256 (c .if2 .taken)))
 
 all-clean-requires : tie.Need-all-clean-requires
 all-clean-requires c κs =
@@ -46,7 +47,7 @@ returns-3 : tie.Need-returns-3
 unfolding check-table
 returns-3 c =
     let at-if2 = counted (c .before) in
-    told-refused _
+    check-refused _
     (rw (
       wide (at-if2 .before),
       le-leb _ 256 (at-if2 .if2 .left),
@@ -61,7 +62,7 @@ unfolding check-table
 returns-4 c =
     let at-if3 = scanned (c .before) in
     let at-if2 = counted (at-if3 .before) in
-    told-refused _
+    check-refused _
     (rw (
       wide (at-if2 .before),
       le-leb _ 256 (at-if2 .if2 .left),
@@ -74,7 +75,7 @@ unfolding check-table
 returns-5 c =
     let at-if3 = scanned (c .before) in
     let at-if2 = counted (at-if3 .before) in
-    told-accepted _ (search needs) (search needs)
+    check-accepted _ (search needs) (search needs)
     (rw (
       wide (at-if2 .before),
       le-leb _ 256 (at-if2 .if2 .left),

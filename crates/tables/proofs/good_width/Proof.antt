@@ -1,3 +1,4 @@
+-- By definition.
 use mathlib.Core.Path.{refl}
 use Rattle.tables.specs.Values.{good-width}
 use Rattle.tables.proofs.good_width.Statement.{statement}

@@ -1,3 +1,4 @@
+-- By the test of the width, `good_width`.
 use mathlib.Core.Path.{sym, _∙_}
 use borrow.Author.Tests.{not-true, not-false}
 use borrow.Author.Needs.{needs}

@@ -1,3 +1,4 @@
+-- By definition, with the table that `zero` makes.
 use borrow.Author.Needs.{needs}
 use Rattle.tables.proofs.refused.Statement.{statement}
 use Rattle.tables.proofs.refused.Tie as tie

@@ -1,9 +1,10 @@
+-- By recursion: a head's row has a token less and at most 15 terms, so that 17 times the tokens pays for both functions.
 use mathlib.Core.Path.{sym, ap, _∙_}
 use Prim.Native.Nat.{ℕ, _+_, _*_, _<_}
 use native.Mathlib.Omega.{arith}
 use lib.ListN.{length}
-use Rattle.terms.proofs.Reader.{took-inside, row-inside, plus, one-more, row-none, row-more, term-none, term-variable}
-use Rattle.terms.proofs.Reader.{term-head}
+use Rattle.terms.proofs.Reader.{parsed-inside, row-inside, plus, one-more, row-none, row-more, term-none}
+use Rattle.terms.proofs.Reader.{term-variable, term-head}
 use borrow.Author.Needs.{needs}
 use borrow.Fn.Kinds.{In}
 use borrow.Fn.PlainCycle.{Measures, is, falls, and}
@@ -58,10 +59,13 @@ module _ (t : ℕ) where
   row-sub c =
       let at-term = c .before .before .before in
       let a = at-term .before .before .before .args in
-      took-inside (a .l) (c .before .n .given .0 .0) (a .ts .now) (sym (at-term .read-term .ensures) ∙ c .before .n .given .1)
+      parsed-inside (a .l) (c .before .n .given .0 .0) (a .ts .now)
+      (sym (at-term .read-term .ensures) ∙ c .before .n .given .1)
 
   row-mul : read-row-lts.Need-mul-read-row (row-calls t) (read-row-at t) read-row.Post
-  row-mul c = omega (arith, row-sub c, c .before .before .before .before .before .before .good .0 .1)
+  row-mul c =
+      let at-term = c .before .before .before in
+      omega (arith, row-sub c, at-term .before .before .before .good .0 .1)
 
   row-start : read-row-lts.Need-part-read-row-start (row-calls t) (read-row-at t) read-row.Post
   row-start c = row-sub c
@@ -82,7 +86,8 @@ module _ (t : ℕ) where
   row-add c =
       let at-row = c .before .before .before in
       let at-n = at-row .before .before in
-      let start = at-n .before .before .before .before .before .before in
+      let at-term = at-n .before .before .before in
+      let start = at-term .before .before .before in
       let a = start .args in
       omega (
         arith,
@@ -168,7 +173,8 @@ module _ (t : ℕ) where
   term-add : read-term-lts.Need-add-t19 (term-calls t) (read-term-at t) read-term.Post
   term-add c =
       let at-row = c .before .before .before in
-      let start = at-row .before .before .before .before .before .before in
+      let at-if2 = at-row .before .before in
+      let start = at-if2 .before .before .before .before in
       let a = start .args in
       omega (
         arith,

@@ -1,10 +1,11 @@
+-- Loop: `good`, and the test of the tokens from i on, are the test of all (`named-turn`, `named-end`).
 use mathlib.Core.Path.{_≡_, refl}
 use mathlib.Core.Bool.{_&&_}
 use Prim.Native.Nat.{_-_, _≤_}
 use native.Mathlib.Omega.{arith}
 use lib.ListN.{length, drop}
 use Rattle.terms.specs.Checks.{all-named}
-use Rattle.terms.proofs.Naming.{named-turn, named-end}
+use Rattle.terms.proofs.TokenScans.{named-turn, named-end}
 use borrow.Author.Needs.{needs}
 use Rattle.terms.proofs.all_named.Statement.{statement}
 use Rattle.terms.proofs.all_named.Tie as tie

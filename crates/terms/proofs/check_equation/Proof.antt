@@ -1,3 +1,4 @@
+-- One return for each check, in the definition's order; the last is `check_term`.
 use mathlib.Core.Path.{_∙_}
 use borrow.Author.Tests.{not-true, not-false, le-leb, lt-leb}
 use Rattle.model.specs.Tokens.{named}

@@ -1,3 +1,4 @@
+-- The names first; then by what the reader answers and whether it used all tokens (`term-checked`).
 use mathlib.Core.Path.{sym, ap, _∙_}
 use borrow.Author.Tests.{not-true, not-false, eq-eqb, ne-eqb}
 use Rattle.terms.specs.Checks.{check-term, checked}

@@ -1,3 +1,4 @@
+-- Loop: `set`, with the variables among the tokens from i on, is the whole set (`word-variable`, `word-head`, `word-end`).
 use mathlib.Core.Path.{_≡_, refl}
 use mathlib.Core.Logic.{⊎-elim}
 use Prim.Native.Nat.{_-_, _≤_}
@@ -5,7 +6,7 @@ use native.Mathlib.Omega.{arith}
 use lib.Bits.{bitOr}
 use lib.ListN.{length, drop}
 use Rattle.terms.specs.Checks.{word-of}
-use Rattle.terms.proofs.Naming.{variable-at, word-variable, word-head, word-end}
+use Rattle.terms.proofs.TokenScans.{variable-at, word-variable, word-head, word-end}
 use borrow.Author.Needs.{needs}
 use Rattle.terms.proofs.variables.Statement.{statement}
 use Rattle.terms.proofs.variables.Tie as tie

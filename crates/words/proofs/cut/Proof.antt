@@ -1,7 +1,8 @@
+-- The chosen bits of each half, moved together, are the halves of the cut string's word (`word-cut`).
 use mathlib.Core.Path.{ap₂, _∙_}
 use Rattle.words.specs.Words.{halves, cut-word}
-use Rattle.words.proofs.Halves.{joined}
-use Rattle.words.proofs.Gather.{word-cut}
+use Rattle.words.proofs.Halves.{halves-or}
+use Rattle.words.proofs.GatheredBits.{word-cut}
 use borrow.Author.Needs.{needs}
 use Rattle.words.proofs.cut.Statement.{statement}
 use Rattle.words.proofs.cut.Tie as tie
@@ -29,7 +30,7 @@ unfolding cut-word
 returns c =
     let z = c .before .gathered in
     let o = c .gathered2 in
-    let is = joined (z .result) (o .result) (search needs) (search needs) ∙ ap₂ halves (z .ensures) (o .ensures) in
+    let is = halves-or (z .result) (o .result) (search needs) (search needs) ∙ ap₂ halves (z .ensures) (o .ensures) in
     (is, λ k s e h ek es. is ∙ rw (ek, es) (word-cut k s e h))
 
 pub cut-spec : {M : Type 1} → statement M

@@ -1,3 +1,4 @@
+-- The care is what `fixed` gives, the value is the low half: the entry that the word was made of (`entry-back`).
 use mathlib.Core.Path.{refl}
 use Rattle.words.specs.Words.{entry-of, fixed-word}
 use Rattle.words.proofs.Words.{entry-back}

@@ -1,3 +1,4 @@
+-- A fixed position has its bit in one of the halves, so that both together are the care word (`care-word`).
 use mathlib.Core.Path.{refl}
 use Rattle.words.specs.Words.{fixed-word}
 use Rattle.words.proofs.Halves.{fixed-lt, care-word}

@@ -1,3 +1,4 @@
+-- Each fixed position has one bit, in one of the halves (`word-count`).
 use mathlib.Core.Path.{refl}
 use Rattle.words.proofs.Positions.{word-count}
 use Rattle.words.proofs.fixed_count.Statement.{statement}

@@ -1,3 +1,4 @@
+-- The bits of position i in the two halves are exchanged where it is fixed (`word-flipped`).
 use mathlib.Core.Path.{refl}
 use Rattle.words.specs.Words.{flipped-word}
 use Rattle.words.proofs.Positions.{word-flipped}

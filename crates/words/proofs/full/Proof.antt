@@ -1,3 +1,4 @@
+-- `1 << l` is 2^l (`one-shl`), and one less is below 2^32, so that nothing is cut off.
 use native.Mathlib.Nat.{mod-eq-of-lt}
 use native.Mathlib.Omega.{arith}
 use lib.Pow.{pow-pos, pow-mono}

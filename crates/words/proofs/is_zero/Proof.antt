@@ -1,3 +1,4 @@
+-- A string of l positions is all zero exactly where its word is that of `zero` (`word-zero`).
 use mathlib.Core.Path.{refl}
 use Rattle.words.proofs.Words.{word-zero}
 use borrow.Author.Needs.{needs}

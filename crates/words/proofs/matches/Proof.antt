@@ -1,3 +1,4 @@
+-- Strings match exactly where no position has a bit in both halves of their words together (`word-matches`).
 use mathlib.Core.Path.{refl}
 use Rattle.words.specs.Words.{clash-word, matches-word}
 use Rattle.words.proofs.Words.{word-matches}

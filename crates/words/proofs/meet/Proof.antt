@@ -1,3 +1,4 @@
+-- Of strings that match, the bits of either word are those of the meet (`word-meet`).
 use mathlib.Core.Path.{refl}
 use Rattle.words.proofs.Words.{word-meet}
 use Rattle.words.proofs.meet.Statement.{statement}

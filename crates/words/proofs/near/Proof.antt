@@ -1,6 +1,7 @@
+-- Without its lowest bit the word of what y lacks is 0 exactly where that is one bit or none (`wrapped`, `word-near`).
 use mathlib.Core.Path.{_∙_}
 use Rattle.words.specs.Words.{lacks-word}
-use Rattle.words.proofs.OpeningLaws.{wrapped, word-near}
+use Rattle.words.proofs.LackedBits.{wrapped, word-near}
 use borrow.Author.Needs.{needs}
 use Rattle.words.proofs.near.Statement.{statement}
 use Rattle.words.proofs.near.Tie as tie

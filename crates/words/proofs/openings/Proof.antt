@@ -1,6 +1,7 @@
+-- By the bits of e that y lacks: none, one, more (`none-lacks`, `one-lacks`, `more-lack`); together `word-openings`.
 use mathlib.Core.Path.{_∙_}
 use Rattle.words.specs.Words.{lacks-word}
-use Rattle.words.proofs.OpeningLaws.{word-openings, none-lacks, one-lacks, more-lack}
+use Rattle.words.proofs.LackedBits.{word-openings, none-lacks, one-lacks, more-lack}
 use borrow.Author.Needs.{needs}
 use Rattle.words.proofs.openings.Statement.{statement}
 use Rattle.words.proofs.openings.Tie as tie

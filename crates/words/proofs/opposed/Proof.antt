@@ -1,3 +1,4 @@
+-- y gets the bit that the opposite of v has at position i, where y has none (`word-opposed`).
 use mathlib.Core.Path.{refl}
 use Rattle.words.specs.Words.{opposed-word}
 use Rattle.words.proofs.Positions.{word-opposed}

@@ -1,6 +1,7 @@
+-- Opposed positions have a bit in both halves; without the lowest such bit none is left (`wrapped`, `word-opposed-once`).
 use mathlib.Core.Path.{_∙_}
 use Rattle.words.specs.Words.{clash-word}
-use Rattle.words.proofs.OpeningLaws.{wrapped}
+use Rattle.words.proofs.LackedBits.{wrapped}
 use Rattle.words.proofs.Clashes.{word-opposed-once}
 use borrow.Author.Needs.{needs}
 use Rattle.words.proofs.opposed_once.Statement.{statement}

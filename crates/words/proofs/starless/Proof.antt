@@ -1,3 +1,4 @@
+-- A string of l positions has no `*` exactly where its care word has l bits (`word-starless`).
 use mathlib.Core.Path.{refl}
 use native.Mathlib.Omega.{arith}
 use lib.Pow.{pow-pos}

@@ -1,3 +1,4 @@
+-- Without its bits in both halves, position i is `*` (`word-starred`).
 use mathlib.Core.Path.{refl}
 use Rattle.words.specs.Words.{starred-word}
 use Rattle.words.proofs.Positions.{word-starred}

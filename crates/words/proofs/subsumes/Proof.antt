@@ -1,3 +1,4 @@
+-- a subsumes b exactly where b has each bit of a (`word-subsumes`); the code's test of that is `xor-test`.
 use mathlib.Core.Path.{refl}
 use Rattle.words.specs.Words.{subsumes-word}
 use Rattle.words.proofs.Words.{xor-test, word-subsumes}

@@ -1,8 +1,9 @@
+-- The high half is care without value, the positions that are 0; the low half is the value (`word-of-entry`).
 use mathlib.Core.Path.{_∙_}
 use Prim.Native.Nat.{_^_, _<_}
 use lib.Bits.{bitXor, xor-lt}
 use Rattle.words.specs.Words.{word-of}
-use Rattle.words.proofs.Halves.{joined}
+use Rattle.words.proofs.Halves.{halves-or}
 use Rattle.words.proofs.Words.{word-of-entry}
 use borrow.Author.Needs.{needs}
 use Rattle.words.proofs.word_of.Statement.{statement}
@@ -21,7 +22,8 @@ returns : tie.Need-returns
 unfolding word-of
 returns c =
     let e = c .before .before .args .e in
-    let is = joined (bitXor (e .care) (e .value)) (e .value) (xor-lt 32 (e .care) (e .value) (search needs) (search needs))
+    let is = halves-or (bitXor (e .care) (e .value)) (e .value)
+    (xor-lt 32 (e .care) (e .value) (search needs) (search needs))
     (search needs) in
     (is, λ s es. is ∙ rw es (word-of-entry s))
 

@@ -1,3 +1,4 @@
+-- l bits in the high half and none in the low (`zero-shl`) are the word of the all-zero string (`zero-word-is`).
 use mathlib.Core.Path.{_∙_}
 use native.Mathlib.Omega.{arith}
 use lib.Pow.{pow-pos}

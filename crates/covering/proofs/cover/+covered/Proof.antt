@@ -11,9 +11,9 @@ use borrow.Author.Tests.{not-true, not-false}
 use borrow.Fn.Kinds.{In}
 use borrow.Fn.PlainCycle.{Measures, is, falls, and}
 use lib.ListN.{length, getD}
-use Rattle.lists.specs.Lists.{OfString}
+use Rattle.lists.specs.WorkingLists.{OfString}
 use Rattle.lists.proofs.Holding.{holds-length}
-use Rattle.covering.proofs.Pieces.{covered-none, Left, left-start, left-pass, left-fail, left-next, left-done, answer}
+use Rattle.covering.proofs.Pieces.{covered-none, Left, left-start, left-skip, left-fail, left-next, left-done, answer}
 use Rattle.covering.proofs.Narrowing.{covered-subsumed, covered-narrowed}
 use Rattle.covering.proofs.cover.covered.Reads as covered
 use Rattle.covering.proofs.cover.covered.Kinds as covered-kinds
@@ -198,7 +198,7 @@ module _ (t : ℕ) where
             let a = at-loop .loop .inv .2 τ s h n e in
             let long = holds-length h _ near in
             rw (p .1)
-            (left-pass l i τ _ s _ a
+            (left-skip l i τ _ s _ a
             (sym (splits .ensures .1 (a .rest) _ (rw (a .long) (h .short)) (rw long (h .short)) (a .is) (h .here _ near))
             ∙ p .0 .left)),
       ))

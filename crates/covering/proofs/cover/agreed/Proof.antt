@@ -1,3 +1,4 @@
+-- y gets v's bit at position i, where it has none (`agreed-word`); a word with more bits is no less (`or-more`).
 use borrow.Author.Needs.{needs}
 use Rattle.covering.proofs.Splitting.{agreed-word, or-more}
 use Rattle.covering.proofs.cover.agreed.Statement.{statement}

@@ -1,9 +1,10 @@
+-- Loop: x covers all that y covers and no entry does (`narrows-more`), and is no less.
 use mathlib.Core.Path.{sym, _∙_}
 use Prim.Native.Nat.{ℕ, _<_, _≤_, _-_}
 use native.Mathlib.Omega.{arith}
 use borrow.Author.Needs.{needs}
 use Rattle.model.specs.Growth.{covered}
-use Rattle.lists.specs.Lists.{OfString}
+use Rattle.lists.specs.WorkingLists.{OfString}
 use Rattle.lists.proofs.Holding.{holds-length}
 use Rattle.covering.specs.Covering.{Narrows}
 use Rattle.covering.proofs.Narrowing.{narrows-same, narrows-more}

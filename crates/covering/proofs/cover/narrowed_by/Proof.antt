@@ -1,3 +1,4 @@
+-- y stays (`narrows-same`), or v has one position that y lacks, and there all that is left has the opposite (`narrows-one`).
 use native.Mathlib.Omega.{arith}
 use borrow.Author.Needs.{needs}
 use Rattle.covering.proofs.Narrowing.{narrows-same, narrows-one}

@@ -1,4 +1,4 @@
--- `nearest` meets its contract. The invariant, `Best`: the best so far matches, and while there is none no entry passed
+-- `nearest` meets its contract. The invariant, `Best`: the best so far matches, and while there is none no entry so far
 -- matches.
 use mathlib.Core.Bool.{true, false, false≢true}
 use mathlib.Core.List.{[]}
@@ -11,9 +11,9 @@ use borrow.Author.Needs.{needs}
 use lib.ListN.{getD}
 use Rattle.model.specs.Strings.{Trits, matches}
 use Rattle.model.specs.Growth.{Entries}
-use Rattle.lists.specs.Lists.{OfString}
+use Rattle.lists.specs.WorkingLists.{OfString}
 use Rattle.lists.proofs.Holding.{holds-length}
-use Rattle.covering.proofs.Every.{untrue}
+use Rattle.covering.proofs.EveryGroup.{untrue}
 use Rattle.covering.proofs.cover.nearest.Statement.{statement}
 use Rattle.covering.proofs.cover.nearest.Tie as tie
 
@@ -21,13 +21,13 @@ use Rattle.covering.proofs.cover.nearest.Tie as tie
 record Best (τ : Entries) (s : Trits) (n best few i : ℕ) : Type 0 where
   found : best < n → matches (getD τ best []) s ≡ true
   none : best ≡ n → few ≡ 65
-  passed : best ≡ n → (k : ℕ) → k < i → matches (getD τ k []) s ≡ true → ⊥
+  no-match : best ≡ n → (k : ℕ) → k < i → matches (getD τ k []) s ≡ true → ⊥
 
 -- entry i is the new best
 best-next : (τ : Entries) (s : Trits) (n few i k : ℕ) → i < n → k < few → few ≤ 65
     → (k < 65 → matches (getD τ i []) s ≡ true) → Best τ s n i k (i + 1)
 best-next τ s n few i k h less f m =
-    record { found = λ _. m (omega arith); none = λ e. absurd (omega arith); passed = λ e. absurd (omega arith) }
+    record { found = λ _. m (omega arith); none = λ e. absurd (omega arith); no-match = λ e. absurd (omega arith) }
 
 -- or it is no better
 best-stays : (τ : Entries) (s : Trits) (n best few i k : ℕ) → few ≤ k → k ≤ 65
@@ -35,7 +35,7 @@ best-stays : (τ : Entries) (s : Trits) (n best few i k : ℕ) → few ≤ k →
 best-stays τ s n best few i k more h m b = record {
   found = b .found;
   none = b .none;
-  passed = λ e. below-more _ i (b .passed e) (λ y. false≢true (sym (m (omega (arith, b .none e))) ∙ y));
+  no-match = λ e. below-more _ i (b .no-match e) (λ y. false≢true (sym (m (omega (arith, b .none e))) ∙ y));
 }
 
 abbrev Inv-loop : tie.InvT-loop
@@ -56,7 +56,7 @@ loop-holds c = (
   λ l τ s h e is. record {
     found = λ k. absurd (omega arith);
     none = λ _. refl;
-    passed = λ _ k z. absurd (omega arith);
+    no-match = λ _ k z. absurd (omega arith);
   },
 )
 
@@ -80,29 +80,19 @@ loop-again c =
     let at-loop = c .before .before .before .before in
     let w = at-loop .loop in
     let rank = c .before .rank in
-    let below : w .i < at-loop .before .args .n = omega arith in
-    ⊎-elim
-    (λ p. (
+    let below : w .i < at-loop .before .args .n = omega arith in (
       omega arith,
-      omega arith,
-      omega arith,
+      ⊎-elim (λ p. omega (arith, p .1)) (λ p. omega (arith, p .1)) (c .if1 .came),
+      ⊎-elim (λ p. omega (arith, p .2)) (λ p. omega (arith, p .2)) (c .if1 .came),
       λ l τ s h e is.
           let long = holds-length h (w .i) below in
-          rw (p .1, p .2)
-          (best-next τ s _ (w .few) _ _ below (p .0 .taken) (w .inv .2)
-          (rank .ensures .1 _ s (long ∙ sym e) (rw long (h .short)) (h .here _ below) is .0)),
-    ))
-    (λ p. (
-      omega arith,
-      omega arith,
-      omega arith,
-      λ l τ s h e is.
-          let long = holds-length h (w .i) below in
-          rw (p .1, p .2)
-          (best-stays τ s _ _ _ _ (rank .result) (p .0 .left) (rank .ensures .0)
-          (rank .ensures .1 _ s (long ∙ sym e) (rw long (h .short)) (h .here _ below) is .1) (w .inv .3 l τ s h e is)),
-    ))
-    (c .if1 .came)
+          let test = rank .ensures .1 _ s (long ∙ sym e) (rw long (h .short)) (h .here _ below) is in
+          ⊎-elim
+          (λ p. rw (p .1, p .2) (best-next τ s _ (w .few) _ _ below (p .0 .taken) (w .inv .2) (test .0)))
+          (λ p. rw (p .1, p .2)
+          (best-stays τ s _ _ _ _ (rank .result) (p .0 .left) (rank .ensures .0) (test .1) (w .inv .3 l τ s h e is)))
+          (c .if1 .came),
+    )
 
 returns : tie.Need-returns Inv-loop μ-loop
 returns c = (
@@ -112,7 +102,7 @@ returns c = (
       record {
         found = λ k. b .found (omega (arith, h .count));
         no-match = λ k i m.
-            untrue _ (b .passed (omega (arith, h .count, c .before .loop .inv .1)) i (omega (arith, h .count)));
+            untrue _ (b .no-match (omega (arith, h .count, c .before .loop .inv .1)) i (omega (arith, h .count)));
       },
 )
 

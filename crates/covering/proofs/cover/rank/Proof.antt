@@ -1,3 +1,4 @@
+-- A word has at most 64 bits, so that 65 says no match and nothing else.
 use mathlib.Core.Path.{sym, _∙_}
 use native.Mathlib.Omega.{arith}
 use borrow.Author.Needs.{needs}

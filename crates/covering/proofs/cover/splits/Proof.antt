@@ -1,3 +1,4 @@
+-- Both tests are of a bit of a care word (`splits-word`).
 use borrow.Author.Needs.{needs}
 use Rattle.covering.proofs.Splitting.{splits-word, opposed-more}
 use Rattle.covering.proofs.cover.splits.Statement.{statement}

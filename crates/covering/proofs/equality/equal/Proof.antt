@@ -1,3 +1,4 @@
+-- Lists of either side stand for the same groups exactly where each is within the other (`equal-within`).
 use mathlib.Core.Bool.{Bool, _&&_}
 use mathlib.Core.Path.{sym, ap, _∙_}
 use borrow.Author.Needs.{needs}

@@ -1,3 +1,4 @@
+-- Loop: the entries before i are covered, so that the others decide (`within-next`, `within-end`).
 use mathlib.Core.Path.{_≡_, refl, sym, _∙_}
 use Prim.Native.Nat.{_≤_, _-_}
 use native.Mathlib.Omega.{arith}
@@ -5,7 +6,7 @@ use borrow.Author.Needs.{needs}
 use borrow.Author.Tests.{not-true, not-false}
 use lib.ListN.{drop}
 use Rattle.model.specs.Growth.{Entries}
-use Rattle.lists.specs.Lists.{Holds}
+use Rattle.lists.specs.WorkingLists.{Holds}
 use Rattle.lists.proofs.Holding.{holds-length}
 use Rattle.covering.specs.Covering.{within}
 use Rattle.covering.proofs.Inclusion.{within-next, within-end}
@@ -37,9 +38,9 @@ returns c α β ha hb =
     let at-test = at-covered .before .before in
     let w = at-test .before .loop in
     let below = at-test .loop-test .taken in
-    let told = at-covered .covered .ensures β _ hb (holds-length ha (w .i) below) (ha .here (w .i) below) in
+    let answer = at-covered .covered .ensures β _ hb (holds-length ha (w .i) below) (ha .here (w .i) below) in
     sym (w .inv .1 α β ha hb
-    ∙ within-next _ β α (w .i) (omega (arith, below, ha .count)) _ (sym (not-true _ (c .if1 .taken)) ∙ told))
+    ∙ within-next _ β α (w .i) (omega (arith, below, ha .count)) _ (sym (not-true _ (c .if1 .taken)) ∙ answer))
 
 add-i : tie.Need-add-i Inv-loop μ-loop
 add-i c = search needs
@@ -55,9 +56,9 @@ loop-again c =
     let below = at-test .loop-test .taken in (
       omega (arith, below),
       λ α β ha hb.
-          let told = at-covered .covered .ensures β _ hb (holds-length ha (w .i) below) (ha .here (w .i) below) in
+          let answer = at-covered .covered .ensures β _ hb (holds-length ha (w .i) below) (ha .here (w .i) below) in
           w .inv .1 α β ha hb
-          ∙ within-next _ β α (w .i) (omega (arith, below, ha .count)) _ (sym (not-false _ (c .if1 .left)) ∙ told),
+          ∙ within-next _ β α (w .i) (omega (arith, below, ha .count)) _ (sym (not-false _ (c .if1 .left)) ∙ answer),
     )
 
 returns-2 : tie.Need-returns-2 Inv-loop μ-loop

@@ -1,3 +1,4 @@
+-- Loop: all that y covers with a first variable before j is covered. A part that is not decides (`apart-no`, `apart-all`).
 use mathlib.Core.Bool.{true, false, false≢true}
 use mathlib.Core.Logic.{⊎-elim}
 use mathlib.Core.Path.{_≡_, sym, _∙_}
@@ -8,17 +9,16 @@ use Rattle.model.specs.Groups.{Bits}
 use Rattle.model.specs.Strings.{covers}
 use Rattle.model.proofs.Candidates.{meet-length}
 use Rattle.words.specs.Words.{set-word}
-use Rattle.lists.specs.Lists.{OfString}
+use Rattle.lists.specs.WorkingLists.{OfString}
 use Rattle.covering.specs.Sets.{first-string}
-use Rattle.covering.proofs.Firsts.{first-length}
-use Rattle.covering.proofs.Meeting.{part, part-meet, part-none, apart-no, apart-all}
+use Rattle.covering.proofs.FirstVariables.{first-length}
+use Rattle.covering.proofs.MeetingSets.{part, part-meet, part-none, apart-no, apart-all}
 use borrow.Author.Count.{below-more}
 use borrow.Author.Needs.{needs}
 use borrow.Author.Tests.{not-true, not-false}
 use Rattle.covering.proofs.independence.apart_negative.Statement.{statement}
 use Rattle.covering.proofs.independence.apart_negative.Tie as tie
 
--- every part of a position before j is covered
 abbrev Inv-loop : tie.InvT-loop
 Inv-loop list n l y set j₀ j =
     (j ≤ l)
@@ -100,16 +100,5 @@ pub apart-negative-spec : {M : Type 1} → statement M
 apart-negative-spec =
     tie.close
     (tie.spec
-    Inv-loop
-    μ-loop
-    loop-holds
-    in-set-requires
-    first-at-requires
-    matches-requires
-    meet-requires
-    covered-requires
-    returns
-    add-j
-    loop-less
-    loop-again
-    returns-2)
+    Inv-loop μ-loop loop-holds in-set-requires first-at-requires matches-requires meet-requires covered-requires returns
+    add-j loop-less loop-again returns-2)

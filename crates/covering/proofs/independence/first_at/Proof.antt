@@ -1,10 +1,11 @@
+-- The set below position i is the high half, the bit of i the low one (`first-word`).
 use native.Mathlib.Nat.{lt-of-le-of-lt}
 use native.Mathlib.Omega.{arith}
 use borrow.Author.Needs.{needs}
 use lib.Bits.{and-le-l}
 use lib.Pow.{pow-pos}
 use Rattle.words.proofs.Positions.{one-shl}
-use Rattle.covering.proofs.Firsts.{first-word}
+use Rattle.covering.proofs.FirstVariables.{first-word}
 use Rattle.covering.proofs.independence.first_at.Statement.{statement}
 use Rattle.covering.proofs.independence.first_at.Tie as tie
 

@@ -1,10 +1,11 @@
+-- No group has x exactly where all groups with x are covered (`ground-one`).
 use mathlib.Core.Path.{sym, _∙_}
 use Prim.Native.Nat.{_-_}
 use native.Mathlib.Omega.{arith}
 use Rattle.model.proofs.Positions.{one-at-length}
 use Rattle.words.proofs.Positions.{one-shl}
 use Rattle.words.proofs.Words.{one-word}
-use Rattle.covering.proofs.Meeting.{ground-one}
+use Rattle.covering.proofs.MeetingSets.{ground-one}
 use borrow.Author.Needs.{needs}
 use Rattle.covering.proofs.independence.ground_negative.Statement.{statement}
 use Rattle.covering.proofs.independence.ground_negative.Tie as tie

@@ -1,10 +1,11 @@
+-- No group has x exactly where the set of x alone is independent of itself (`ground-only`).
 use mathlib.Core.Path.{_∙_}
 use Prim.Native.Nat.{_-_}
 use native.Mathlib.Omega.{arith}
 use Rattle.model.specs.Tables.{positive}
 use Rattle.words.proofs.Positions.{one-shl}
-use Rattle.covering.proofs.Firsts.{only-length, only-word}
-use Rattle.covering.proofs.Meeting.{ground-only}
+use Rattle.covering.proofs.FirstVariables.{only-length, only-word}
+use Rattle.covering.proofs.MeetingSets.{ground-only}
 use borrow.Author.Needs.{needs}
 use Rattle.covering.proofs.independence.ground_positive.Statement.{statement}
 use Rattle.covering.proofs.independence.ground_positive.Tie as tie

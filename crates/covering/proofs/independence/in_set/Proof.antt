@@ -1,3 +1,4 @@
+-- A bit of the set's word (`set-bit`).
 use borrow.Author.Needs.{needs}
 use Rattle.words.proofs.Codec.{set-bit}
 use Rattle.covering.proofs.independence.in_set.Statement.{statement}

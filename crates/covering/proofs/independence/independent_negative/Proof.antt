@@ -1,3 +1,4 @@
+-- Loop: for each variable of the first set before i, the groups that have it first are apart from the second set.
 use mathlib.Core.Bool.{true, false, false≢true}
 use mathlib.Core.Logic.{⊎-elim}
 use mathlib.Core.Path.{_≡_, sym, _∙_}
@@ -7,17 +8,16 @@ use lib.ListN.{length, getD}
 use Rattle.model.specs.Groups.{Bits}
 use Rattle.model.specs.Growth.{Entries}
 use Rattle.words.specs.Words.{set-word}
-use Rattle.lists.specs.Lists.{Holds}
+use Rattle.lists.specs.WorkingLists.{Holds}
 use Rattle.covering.specs.Sets.{first-string, apart}
-use Rattle.covering.proofs.Firsts.{first-length}
-use Rattle.covering.proofs.Meeting.{independent-no, independent-all}
+use Rattle.covering.proofs.FirstVariables.{first-length}
+use Rattle.covering.proofs.MeetingSets.{independent-no, independent-all}
 use borrow.Author.Count.{below-more}
 use borrow.Author.Needs.{needs}
 use borrow.Author.Tests.{not-true, not-false}
 use Rattle.covering.proofs.independence.independent_negative.Statement.{statement}
 use Rattle.covering.proofs.independence.independent_negative.Tie as tie
 
--- for each position of the first set before i, the groups whose first variable of that set is there are apart from the second
 abbrev Inv-loop : tie.InvT-loop
 Inv-loop list n l a b i₀ i =
     (i ≤ l)
@@ -79,14 +79,5 @@ pub independent-negative-spec : {M : Type 1} → statement M
 independent-negative-spec =
     tie.close
     (tie.spec
-    Inv-loop
-    μ-loop
-    loop-holds
-    in-set-requires
-    first-at-requires
-    apart-negative-requires
-    returns
-    add-i
-    loop-less
-    loop-again
+    Inv-loop μ-loop loop-holds in-set-requires first-at-requires apart-negative-requires returns add-i loop-less loop-again
     returns-2)

@@ -1,3 +1,4 @@
+-- Loop: no entry before i joins the sets, so that the others decide (`positive-next`, `positive-end`).
 use mathlib.Core.Path.{_≡_, refl, sym, ap, _∙_}
 use mathlib.Core.Bool.{Bool, not, _&&_}
 use Prim.Native.Nat.{ℕ, _≤_, _<_, _+_, _-_}
@@ -8,14 +9,13 @@ use Rattle.model.specs.Growth.{Entries}
 use Rattle.model.specs.Tables.{positive}
 use Rattle.model.specs.Questions.{independent}
 use Rattle.words.specs.Words.{set-word}
-use Rattle.lists.specs.Lists.{Holds}
+use Rattle.lists.specs.WorkingLists.{Holds}
 use Rattle.lists.proofs.Holding.{holds-length}
-use Rattle.covering.proofs.Meeting.{positive-next, positive-end}
+use Rattle.covering.proofs.MeetingSets.{positive-next, positive-end}
 use borrow.Author.Needs.{needs}
 use Rattle.covering.proofs.independence.independent_positive.Statement.{statement}
 use Rattle.covering.proofs.independence.independent_positive.Tie as tie
 
--- no entry before i joins the sets, so that the rest decides
 abbrev Inv-loop : tie.InvT-loop
 Inv-loop list n a b i₀ i =
     (i ≤ n)

@@ -1,5 +1,6 @@
+-- Of the groups that e covers the greatest meets each set that any meets; it has 0 just where e has (`joins-word`).
 use borrow.Author.Needs.{needs}
-use Rattle.covering.proofs.Firsts.{joins-word}
+use Rattle.covering.proofs.FirstVariables.{joins-word}
 use Rattle.covering.proofs.independence.joins.Statement.{statement}
 use Rattle.covering.proofs.independence.joins.Tie as tie
 

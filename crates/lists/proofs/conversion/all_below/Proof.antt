@@ -1,9 +1,10 @@
+-- Loop: `good`, and the test of the words from i on, are the test of all (`below-turn`, `below-end`).
 use mathlib.Core.Path.{_≡_, refl}
 use mathlib.Core.Bool.{_&&_}
 use Prim.Native.Nat.{_-_, _≤_}
 use native.Mathlib.Omega.{arith}
 use lib.ListN.{length, drop}
-use Rattle.lists.specs.Lists.{all-below}
+use Rattle.lists.specs.WorkingLists.{all-below}
 use Rattle.lists.proofs.Converting.{below-turn, below-end}
 use borrow.Author.Needs.{needs}
 use Rattle.lists.proofs.conversion.all_below.Statement.{statement}

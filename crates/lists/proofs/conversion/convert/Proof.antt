@@ -1,3 +1,4 @@
+-- Loop (`SoFar`): the words before i are converted, and to go on with the others from the list gives the whole.
 use mathlib.Core.Path.{_≡_, refl}
 use mathlib.Core.Bool.{true}
 use mathlib.Core.List.{map}
@@ -7,9 +8,9 @@ use borrow.Author.Needs.{needs}
 use lib.ListN.{length, length-map}
 use Rattle.model.specs.Growth.{convert-one, convert}
 use Rattle.words.specs.Words.{set}
-use Rattle.lists.specs.Lists.{all-below, stops}
+use Rattle.lists.specs.WorkingLists.{all-below}
 use Rattle.lists.proofs.Holding.{holds-empty, within-count}
-use Rattle.lists.proofs.Toward.{Toward, toward-start, toward-step, toward-stop, toward-end}
+use Rattle.lists.proofs.SoFar.{SoFar, Any, so-far-start, so-far-step, so-far-stop, so-far-end}
 use Rattle.lists.proofs.Converting.{row-word, row-length}
 use Rattle.lists.proofs.conversion.convert.Statement.{statement}
 use Rattle.lists.proofs.conversion.convert.Tie as tie
@@ -18,7 +19,7 @@ abbrev Inv-loop : tie.InvT-loop
 Inv-loop list₀ l words near₀ n₀ i₀ list near n i =
     (i ≤ length words) × (n ≤ 256)
     × (all-below l words ≡ true
-    → Toward l convert-one (map (set l) words) (set l 0) (convert (map (set l) words)) list n i)
+    → SoFar l convert-one (map (set l) words) (convert (map (set l) words)) Any list n i)
 
 abbrev μ-loop : tie.MeasureT-loop
 μ-loop list₀ l words near₀ n₀ i₀ list near n i = length words - i
@@ -28,7 +29,7 @@ unfolding convert
 loop-holds c = (
   omega arith,
   omega arith,
-  λ b. toward-start _ convert-one _ (set _ 0) _ (holds-empty _ _ (c .whole2 .given .0) (omega arith)) refl,
+  λ b. so-far-start (holds-empty _ _ (c .whole2 .given .0) (omega arith)) refl tt,
 )
 
 mul-convert-one : tie.Need-mul-convert-one Inv-loop μ-loop
@@ -55,9 +56,9 @@ returns c = (
       let ws = at-loop .before .before .before .before .args .words in
       let i = at-loop .loop .i in
       let w = at-loop .loop .inv .2 b in
-      let told = at-convert-one .convert-one .ensures .1 _ _ (w .held) (row-length _ (ws .now) i)
+      let made = at-convert-one .convert-one .ensures .1 _ _ (w .held) (row-length _ (ws .now) i)
       (row-word _ (ws .now) i b (omega arith)) in
-      rw (toward-stop _ convert-one _ _ _ w (rw length-map (omega arith)) told (c .enum-told .given .1)) stops,
+      so-far-stop w (set _ 0) (rw length-map (omega arith)) made (c .enum-told .given .1),
 )
 
 add-i : tie.Need-add-i Inv-loop μ-loop
@@ -77,15 +78,15 @@ loop-again c =
       within-count (at-convert-one .convert-one .ensures .0) is,
       λ b.
           let w = at-loop .loop .inv .2 b in
-          let told = at-convert-one .convert-one .ensures .1 _ _ (w .held) (row-length _ (ws .now) i)
+          let made = at-convert-one .convert-one .ensures .1 _ _ (w .held) (row-length _ (ws .now) i)
           (row-word _ (ws .now) i b (omega arith)) in
-          toward-step _ convert-one _ _ _ w (rw length-map (omega arith)) told is,
+          so-far-step w (set _ 0) (rw length-map (omega arith)) made is (λ κ s. tt),
     )
 
 returns-2 : tie.Need-returns-2 Inv-loop μ-loop
 returns-2 c =
     let lp = c .before .loop in
-    (lp .inv .1, λ b. toward-end _ convert-one _ _ _ (lp .inv .2 b) (rw length-map (omega arith)))
+    (lp .inv .1, λ b. so-far-end (lp .inv .2 b) (rw length-map (omega arith)))
 
 pub convert-spec : {M : Type 1} → statement M
 convert-spec =

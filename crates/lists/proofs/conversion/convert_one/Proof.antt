@@ -1,9 +1,10 @@
+-- A zero word is skipped (`skips`); any other is the word of a string that `widen_grow` takes in (`converts`).
 use mathlib.Core.Path.{_∙_}
 use native.Mathlib.Omega.{arith}
 use borrow.Author.Needs.{needs}
 use Rattle.model.proofs.Strings.{exactly-length}
 use Rattle.words.proofs.Codec.{group-entry}
-use Rattle.lists.specs.Lists.{makes}
+use Rattle.lists.specs.WorkingLists.{makes}
 use Rattle.lists.proofs.Converting.{skips, converts}
 use Rattle.lists.proofs.conversion.convert_one.Statement.{statement}
 use Rattle.lists.proofs.conversion.convert_one.Tie as tie

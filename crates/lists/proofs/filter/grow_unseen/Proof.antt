@@ -1,15 +1,16 @@
+-- Loop (`SoFar`): the list is grown by the strings before j and absorbs all that the filter holds, which may be skipped.
 use mathlib.Core.Path.{_≡_, refl, sym, _∙_}
 use mathlib.Core.List.{[]}
 use mathlib.Core.Option.{none}
 use Prim.Native.Nat.{ℕ, _-_, _≤_}
 use native.Mathlib.Omega.{arith}
 use lib.ListN.{getD}
-use Rattle.model.specs.Growth.{Entries, grow-all}
-use Rattle.lists.specs.Lists.{Holds, stops}
+use Rattle.model.specs.Growth.{Entries, grow, grow-all}
+use Rattle.lists.specs.WorkingLists.{Holds, stops}
 use Rattle.lists.specs.Filters.{Filters}
-use Rattle.lists.proofs.Holding.{holds-length, within-count}
-use Rattle.lists.proofs.Idling.{Onward, onward-start, onward-to, onward-step, onward-stop, onward-makes}
-use Rattle.lists.proofs.Idling.{onward-filter}
+use Rattle.lists.proofs.Holding.{holds-length, makes-full, within-count}
+use Rattle.lists.proofs.SoFar.{SoFar, so-far-start, so-far-stop, so-far-end, so-far-known}
+use Rattle.lists.proofs.Absorption.{skip-seen, grow-filter}
 use borrow.Author.Needs.{needs}
 use Rattle.lists.proofs.filter.grow_unseen.Statement.{statement}
 use Rattle.lists.proofs.filter.grow_unseen.Tie as tie
@@ -17,7 +18,8 @@ use Rattle.lists.proofs.filter.grow_unseen.Tie as tie
 abbrev Inv-loop : tie.InvT-loop
 Inv-loop list₀ n l row m seen₀ k₀ j₀ list seen k j =
     (j ≤ m) × (k ≤ 256)
-    × ((τ ρ : Entries) → Holds l list₀ n τ → Holds l row m ρ → Filters l seen₀ τ → Onward l ρ (grow-all τ ρ) list k j seen)
+    × ((τ ρ : Entries) → Holds l list₀ n τ → Holds l row m ρ → Filters l seen₀ τ
+    → SoFar l grow ρ (grow-all τ ρ) (Filters l seen) list k j)
 
 abbrev μ-loop : tie.MeasureT-loop
 μ-loop list₀ n l row m seen₀ k₀ j₀ list seen k j = m - j
@@ -29,7 +31,7 @@ loop-holds : tie.Need-loop-holds Inv-loop μ-loop
 unfolding grow-all
 loop-holds c =
     let u = c .unseen .ensures in
-    (u .1, omega arith, λ τ ρ h y f. onward-to _ ρ _ (onward-start _ ρ _ h refl f) y _ (u .0) (u .1) (u .2))
+    (u .1, omega arith, λ τ ρ h y f. skip-seen y (so-far-start h refl f) _ (u .0) (u .1) (u .2))
 
 mul-y : tie.Need-mul-y Inv-loop μ-loop
 mul-y c = search needs
@@ -48,16 +50,18 @@ enum-told c = search needs
 
 -- what a full list says of the whole
 full : (c : tie.After-enum-told Inv-loop μ-loop) (τ ρ : Entries)
-    → (let a = c .before .before .before .before .before .before .before .before .before .args in
+    → (let at-grow = c .before .before in
+    let at-loop = at-grow .before .before .before .before in
+    let a = at-loop .before .before .before .args in
     Holds (a .l) (a .list .now) (a .n) τ → Holds (a .l) (a .row .now) (a .m) ρ → Filters (a .l) (a .seen .now) τ
     → grow-all τ ρ ≡ none)
 full c τ ρ h y f =
     let at-grow = c .before .before in
     let lp = at-grow .before .before .before .before .loop in
     let w = lp .inv .2 τ ρ h y f in
-    let told = at-grow .grow .ensures .1 _ (getD ρ (lp .j) []) (w .held) (holds-length y (lp .j) (omega arith))
+    let made = at-grow .grow .ensures .1 _ (getD ρ (lp .j) []) (w .held) (holds-length y (lp .j) (omega arith))
     (y .here (lp .j) (omega arith)) in
-    onward-stop _ ρ _ w y (omega arith) told (c .enum-told .given .1)
+    makes-full (so-far-stop w [] (omega (arith, y .count)) made {l′ = 0} {list″ = []} (c .enum-told .given .1)) refl
 
 returns : tie.Need-returns Inv-loop μ-loop
 returns c = (
@@ -97,9 +101,9 @@ loop-again c =
       within-count (at-grow .grow .ensures .0) is,
       λ τ ρ h y f.
           let w = lp .inv .2 τ ρ h y f in
-          let told = at-grow .grow .ensures .1 _ (getD ρ (lp .j) []) (w .held) (holds-length y (lp .j) (omega arith))
+          let made = at-grow .grow .ensures .1 _ (getD ρ (lp .j) []) (w .held) (holds-length y (lp .j) (omega arith))
           (y .here (lp .j) (omega arith)) in
-          onward-to _ ρ _ (onward-step _ ρ _ w y (omega arith) told is (at-slot .slot .ensures)) y _ (u .0) (u .1) (u .2),
+          skip-seen y (grow-filter y (omega arith) w made is (at-slot .slot .ensures)) _ (u .0) (u .1) (u .2),
     )
 
 returns-2 : tie.Need-returns-2 Inv-loop μ-loop
@@ -107,8 +111,8 @@ returns-2 c =
     let lp = c .before .loop in (
       lp .inv .1,
       (
-        λ τ ρ h y f. onward-makes _ ρ _ (lp .inv .2 τ ρ h y f) (omega (arith, y .count)),
-        λ τ ρ κ h y f e. onward-filter _ ρ _ (lp .inv .2 τ ρ h y f) (omega (arith, y .count)) e,
+        λ τ ρ h y f. so-far-end (lp .inv .2 τ ρ h y f) (omega (arith, y .count)),
+        λ τ ρ κ h y f e. so-far-known (lp .inv .2 τ ρ h y f) (omega (arith, y .count)) e,
       ),
     )
 
@@ -116,21 +120,5 @@ pub grow-unseen-spec : {M : Type 1} → statement M
 grow-unseen-spec =
     tie.close
     (tie.spec
-    Inv-loop
-    μ-loop
-    unseen-requires
-    loop-holds
-    mul-y
-    element-copy-out-y
-    grow-requires
-    enum-known-c
-    enum-told
-    returns
-    slot-requires
-    mul-seen
-    element-write-seen
-    add-unseen
-    unseen-requires-2
-    loop-less
-    loop-again
-    returns-2)
+    Inv-loop μ-loop unseen-requires loop-holds mul-y element-copy-out-y grow-requires enum-known-c enum-told returns
+    slot-requires mul-seen element-write-seen add-unseen unseen-requires-2 loop-less loop-again returns-2)

@@ -1,3 +1,4 @@
+-- A remainder is below what it is taken by.
 use native.Mathlib.Omega.{arith}
 use borrow.Author.Needs.{needs}
 use Rattle.lists.proofs.filter.slot.Statement.{statement}
@@ -13,5 +14,4 @@ pub slot-spec : {M : Type 1} → statement M
 slot-spec =
     tie.close
     (tie.spec
-    mul-result
-    returns)
+    mul-result returns)

@@ -1,7 +1,8 @@
+-- Loop: each string from j up to i stands in the filter (`seen-more`).
 use Prim.Native.Nat.{_-_, _≤_}
 use native.Mathlib.Omega.{arith}
 use Rattle.lists.specs.Filters.{Seen}
-use Rattle.lists.proofs.Idling.{seen-more}
+use Rattle.lists.proofs.Absorption.{seen-more}
 use borrow.Author.Needs.{needs}
 use Rattle.lists.proofs.filter.unseen.Statement.{statement}
 use Rattle.lists.proofs.filter.unseen.Tie as tie
@@ -56,16 +57,5 @@ pub unseen-spec : {M : Type 1} → statement M
 unseen-spec =
     tie.close
     (tie.spec
-    Inv-loop
-    μ-loop
-    loop-holds
-    mul-y
-    element-copy-out-y
-    slot-requires
-    mul-if1
-    element-copy-out-if1
-    returns
-    add-i
-    loop-less
-    loop-again
-    returns-2)
+    Inv-loop μ-loop loop-holds mul-y element-copy-out-y slot-requires mul-if1 element-copy-out-if1 returns add-i loop-less
+    loop-again returns-2)

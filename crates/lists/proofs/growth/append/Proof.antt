@@ -1,5 +1,6 @@
+-- By whether there is room: `append-room`, `append-full`.
 use native.Mathlib.Omega.{arith}
-use Rattle.lists.specs.Lists.{makes, stops}
+use Rattle.lists.specs.WorkingLists.{makes, stops}
 use Rattle.lists.proofs.Holding.{holds-append}
 use Rattle.lists.proofs.Growing.{append-room, append-full}
 use borrow.Author.Needs.{needs}
@@ -28,8 +29,4 @@ pub append-spec : {M : Type 1} → statement M
 append-spec =
     tie.close
     (tie.spec
-    mul-list
-    element-write-list
-    add-t6
-    returns
-    returns-2)
+    mul-list element-write-list add-t6 returns returns-2)

@@ -1,3 +1,4 @@
+-- Loop: `free`, and the test of the entries from i up to the end, are the test of all eight (laws of `all-scan`).
 use mathlib.Core.Path.{_≡_, refl}
 use mathlib.Core.Bool.{_&&_, not}
 use Prim.Native.Nat.{_-_, _≤_}
@@ -53,14 +54,5 @@ pub eight-free-spec : {M : Type 1} → statement M
 eight-free-spec =
     tie.close
     (tie.spec
-    Inv-loop
-    μ-loop
-    add-end
-    loop-holds
-    mul-subsumes
-    element-copy-out-subsumes
-    subsumes-requires
-    add-i
-    loop-less
-    loop-again
+    Inv-loop μ-loop add-end loop-holds mul-subsumes element-copy-out-subsumes subsumes-requires add-i loop-less loop-again
     returns)

@@ -1,10 +1,11 @@
+-- Loop: y subsumes no entry before k; a block that is free adds its eight (`free-more`).
 use mathlib.Core.Path.{sym, _∙_}
 use Prim.Native.Nat.{_-_, _≤_}
 use native.Mathlib.Nat.{not-suc-le-zero}
 use native.Mathlib.Omega.{arith}
 use borrow.Author.Tests.{not-false}
-use Rattle.lists.specs.Lists.{Free}
-use Rattle.lists.proofs.Packing.{free-more}
+use Rattle.lists.specs.WorkingLists.{Free}
+use Rattle.lists.proofs.WordTests.{free-more}
 use borrow.Author.Needs.{needs}
 use Rattle.lists.proofs.growth.free_up_to.Statement.{statement}
 use Rattle.lists.proofs.growth.free_up_to.Tie as tie
@@ -49,13 +50,4 @@ pub free-up-to-spec : {M : Type 1} → statement M
 free-up-to-spec =
     tie.close
     (tie.spec
-    Inv-loop
-    μ-loop
-    loop-holds
-    sub-loop
-    eight-free-requires
-    returns
-    add-k
-    loop-less
-    loop-again
-    returns-2)
+    Inv-loop μ-loop loop-holds sub-loop eight-free-requires returns add-k loop-less loop-again returns-2)

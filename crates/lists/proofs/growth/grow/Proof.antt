@@ -1,10 +1,11 @@
+-- The three cases of the growth rule: `grow-zero`, `grow-subsumed`, `grow-new`.
 use mathlib.Core.Path.{_≡_, sym, _∙_}
 use mathlib.Core.Bool.{false}
 use native.Mathlib.Omega.{arith}
 use lib.ListN.{length}
 use Rattle.model.specs.Strings.{Trits, all-zero}
 use Rattle.words.specs.Words.{word}
-use Rattle.lists.specs.Lists.{makes}
+use Rattle.lists.specs.WorkingLists.{makes}
 use Rattle.lists.proofs.Growing.{grow-zero, grow-subsumed, grow-new}
 use borrow.Author.Needs.{needs}
 use Rattle.lists.proofs.growth.grow.Statement.{statement}
@@ -52,9 +53,4 @@ pub grow-spec : {M : Type 1} → statement M
 grow-spec =
     tie.close
     (tie.spec
-    is-zero-requires
-    returns
-    subsumed-requires
-    returns-2
-    insert-requires
-    returns-3)
+    is-zero-requires returns subsumed-requires returns-2 insert-requires returns-3)

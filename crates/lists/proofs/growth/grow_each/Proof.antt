@@ -1,3 +1,4 @@
+-- Loop (`SoFar`): the list is grown by the strings before j and absorbs `absorbed`; what this subsumes may be skipped.
 use mathlib.Core.Path.{refl, sym, _∙_}
 use mathlib.Core.List.{[]}
 use Prim.Native.Nat.{_-_, _≤_}
@@ -5,21 +6,24 @@ use native.Mathlib.Omega.{arith}
 use borrow.Author.Tests.{not-false}
 use lib.Dec.{ltb}
 use lib.ListN.{getD}
-use Rattle.model.specs.Growth.{Entries, grow-all}
-use Rattle.lists.specs.Lists.{Holds, stops}
+use Rattle.model.specs.Growth.{Entries, grow, grow-all}
+use Rattle.lists.specs.WorkingLists.{Holds}
+use Rattle.lists.specs.Filters.{Absorbed}
 use Rattle.lists.proofs.Holding.{holds-length, within-count}
-use Rattle.lists.proofs.Idling.{Beside, beside-start, beside-pass, beside-step, beside-stop, beside-end}
+use Rattle.lists.proofs.Absorption.{absorbed-zero, skip-absorbed, grow-absorbed}
+use Rattle.lists.proofs.SoFar.{SoFar, so-far-start, so-far-stop, so-far-end}
 use borrow.Author.Needs.{needs}
 use Rattle.lists.proofs.growth.grow_each.Statement.{statement}
 use Rattle.lists.proofs.growth.grow_each.Tie as tie
 
 abbrev Inv-loop : tie.InvT-loop
-Inv-loop list₀ n l row m idle₀ k₀ j₀ list idle k j =
+Inv-loop list₀ n l row m absorbed₀ k₀ j₀ list absorbed k j =
     (j ≤ m) × (k ≤ 256)
-    × ((τ ρ : Entries) → Holds l list₀ n τ → Holds l row m ρ → Beside l ρ (grow-all τ ρ) list k j idle)
+    × ((τ ρ : Entries) → Holds l list₀ n τ → Holds l row m ρ
+    → SoFar l grow ρ (grow-all τ ρ) (Absorbed l absorbed) list k j)
 
 abbrev μ-loop : tie.MeasureT-loop
-μ-loop list₀ n l row m idle₀ k₀ j₀ list idle k j = m - j
+μ-loop list₀ n l row m absorbed₀ k₀ j₀ list absorbed k j = m - j
 
 zero-requires : tie.Need-zero-requires Inv-loop μ-loop
 zero-requires c κs = search needs
@@ -29,7 +33,7 @@ unfolding grow-all
 loop-holds c = (
   omega arith,
   omega arith,
-  λ τ ρ h y. beside-start _ ρ _ h refl (c .zero .ensures .0),
+  λ τ ρ h y. so-far-start h refl (absorbed-zero τ (h .short) (c .zero .ensures .0)),
 )
 
 mul-y : tie.Need-mul-y Inv-loop μ-loop
@@ -46,7 +50,7 @@ subsumes-requires c κs = search needs
 
 -- the loop as it came to the growth
 abbrev come : tie.After-grow Inv-loop μ-loop → tie.At-loop Inv-loop μ-loop
-come c = c .before .before .before .before .before .before
+come c = let at-y = c .before .before .before .before in at-y .before .before
 
 grow-requires : tie.Need-grow-requires Inv-loop μ-loop
 grow-requires c κs = search needs
@@ -63,10 +67,10 @@ returns c = (
   λ τ ρ h y.
       let at-grow = c .before .before in
       let lp = come at-grow .loop in
-      let b = lp .inv .2 τ ρ h y in
-      let told = at-grow .grow .ensures .1 _ (getD ρ (lp .j) []) (b .held) (holds-length y (lp .j) (omega arith))
+      let w = lp .inv .2 τ ρ h y in
+      let made = at-grow .grow .ensures .1 _ (getD ρ (lp .j) []) (w .held) (holds-length y (lp .j) (omega arith))
       (y .here (lp .j) (omega arith)) in
-      rw (beside-stop _ ρ _ b y (omega arith) told (c .enum-told .given .1)) stops,
+      so-far-stop w [] (omega (arith, y .count)) made (c .enum-told .given .1),
 )
 
 lesser-requires : tie.Need-lesser-requires Inv-loop μ-loop
@@ -85,10 +89,10 @@ loop-again c =
       omega arith,
       within-count (at-grow .grow .ensures .0) is,
       λ τ ρ h y.
-          let b = lp .inv .2 τ ρ h y in
-          let told = at-grow .grow .ensures .1 _ (getD ρ (lp .j) []) (b .held) (holds-length y (lp .j) (omega arith))
+          let w = lp .inv .2 τ ρ h y in
+          let made = at-grow .grow .ensures .1 _ (getD ρ (lp .j) []) (w .held) (holds-length y (lp .j) (omega arith))
           (y .here (lp .j) (omega arith)) in
-          rw (c .lesser .ensures) (beside-step _ ρ _ b y (omega arith) told is (ltb (getD row (lp .j) 0) (lp .idle))),
+          rw (c .lesser .ensures) (grow-absorbed y (omega arith) w made is (ltb (getD row (lp .j) 0) (lp .absorbed))),
     )
 
 loop-less-2 : tie.Need-loop-less-2 Inv-loop μ-loop
@@ -101,14 +105,14 @@ loop-again-2 c =
       omega arith,
       lp .inv .1,
       λ τ ρ h y.
-          beside-pass _ ρ _ (lp .inv .2 τ ρ h y) y (omega arith)
+          skip-absorbed y (omega arith) (lp .inv .2 τ ρ h y)
           (sym (at-subsumes .subsumes .ensures .0) ∙ not-false _ (c .if1 .left)),
     )
 
 returns-2 : tie.Need-returns-2 Inv-loop μ-loop
 returns-2 c =
     let lp = c .before .loop in
-    (lp .inv .1, λ τ ρ h y. beside-end _ ρ _ (lp .inv .2 τ ρ h y) (omega (arith, y .count)))
+    (lp .inv .1, λ τ ρ h y. so-far-end (lp .inv .2 τ ρ h y) (omega (arith, y .count)))
 
 pub grow-each-spec : {M : Type 1} → statement M
 grow-each-spec =

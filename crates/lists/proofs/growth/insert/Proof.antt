@@ -1,3 +1,4 @@
+-- A string without `*` removes nothing (`starless-removes`); for any other `pack` keeps just what is not removed.
 use mathlib.Core.Path.{sym, _∙_}
 use Rattle.model.specs.Growth.{remove}
 use Rattle.lists.proofs.Growing.{starless-removes}
@@ -41,10 +42,4 @@ pub insert-spec : {M : Type 1} → statement M
 insert-spec =
     tie.close
     (tie.spec
-    starless-requires
-    append-requires
-    returns
-    free-up-to-requires
-    pack-requires
-    append-requires-2
-    returns-2)
+    starless-requires append-requires returns free-up-to-requires pack-requires append-requires-2 returns-2)

@@ -1,3 +1,4 @@
+-- By the comparison.
 use borrow.Author.Tests.{lt-ltb, le-ltb}
 use Rattle.lists.proofs.growth.lesser.Statement.{statement}
 use Rattle.lists.proofs.growth.lesser.Tie as tie

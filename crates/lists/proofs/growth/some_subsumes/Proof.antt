@@ -1,3 +1,4 @@
+-- Loop: `found`, or the test of the strings from i on, is the test of all (laws of `some-scan`).
 use mathlib.Core.Path.{_≡_, refl}
 use mathlib.Core.Bool.{_||_}
 use Prim.Native.Nat.{_-_, _≤_}
@@ -48,13 +49,4 @@ pub some-subsumes-spec : {M : Type 1} → statement M
 some-subsumes-spec =
     tie.close
     (tie.spec
-    Inv-loop
-    μ-loop
-    loop-holds
-    mul-subsumes
-    element-copy-out-subsumes
-    subsumes-requires
-    add-i
-    loop-less
-    loop-again
-    returns)
+    Inv-loop μ-loop loop-holds mul-subsumes element-copy-out-subsumes subsumes-requires add-i loop-less loop-again returns)

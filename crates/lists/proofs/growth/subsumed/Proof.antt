@@ -1,3 +1,4 @@
+-- Loop: none before i subsumes y. A block has one (`block-found`) or none (`block-none`); the last decides (`block-last`).
 use mathlib.Core.Path.{_≡_, refl, sym, _∙_}
 use mathlib.Core.Bool.{Bool, false}
 use mathlib.Core.List.{List}
@@ -7,9 +8,9 @@ use lib.ListN.{getD}
 use Rattle.model.specs.Growth.{subsumed}
 use Rattle.words.specs.Words.{subsumes-word}
 use Rattle.tables.specs.Lists.{some-from}
-use Rattle.tables.proofs.Scans.{some-scan, scan-start, block-found, block-passed, block-last}
-use Rattle.lists.specs.Lists.{OfString}
-use Rattle.lists.proofs.Packing.{holds-subsumed}
+use Rattle.tables.proofs.Scans.{some-scan, scan-start, block-found, block-none, block-last}
+use Rattle.lists.specs.WorkingLists.{OfString}
+use Rattle.lists.proofs.WordTests.{holds-subsumed}
 use borrow.Author.Needs.{needs}
 use Rattle.lists.proofs.growth.subsumed.Statement.{statement}
 use Rattle.lists.proofs.growth.subsumed.Tie as tie
@@ -54,7 +55,7 @@ loop-again : tie.Need-loop-again Inv-loop μ-loop
 loop-again c =
     let lp = c .before .before .before .loop in (
       omega arith,
-      block-passed _ (lp .i) _ (omega arith) (lp .inv .1) (sym (c .before .some-subsumes2 .ensures) ∙ c .if2 .left),
+      block-none _ (lp .i) _ (omega arith) (lp .inv .1) (sym (c .before .some-subsumes2 .ensures) ∙ c .if2 .left),
     )
 
 some-subsumes-requires-3 : tie.Need-some-subsumes-requires-3 Inv-loop μ-loop
@@ -69,15 +70,5 @@ pub subsumed-spec : {M : Type 1} → statement M
 subsumed-spec =
     tie.close
     (tie.spec
-    Inv-loop
-    μ-loop
-    some-subsumes-requires
-    returns
-    loop-holds
-    add-end
-    some-subsumes-requires-2
-    returns-2
-    loop-less
-    loop-again
-    some-subsumes-requires-3
-    returns-3)
+    Inv-loop μ-loop some-subsumes-requires returns loop-holds add-end some-subsumes-requires-2 returns-2 loop-less loop-again
+    some-subsumes-requires-3 returns-3)

@@ -1,3 +1,4 @@
+-- Loop: the words before i are those of the strings (`run-turn`).
 use mathlib.Core.Path.{_≡_, _∙_}
 use mathlib.Core.List.{[]}
 use Prim.Native.Nat.{ℕ, _-_, _≤_, _<_}
@@ -76,17 +77,5 @@ pub load-spec : {M : Type 1} → statement M
 load-spec =
     tie.close
     (tie.spec
-    Inv-loop
-    μ-loop
-    loop-holds
-    mul-t10
-    element-copy-out-t13
-    mul-t14
-    element-copy-out-t17
-    word-of-requires
-    mul-list
-    element-write-list
-    add-i
-    loop-less
-    loop-again
-    returns)
+    Inv-loop μ-loop loop-holds mul-t10 element-copy-out-t13 mul-t14 element-copy-out-t17 word-of-requires mul-list
+    element-write-list add-i loop-less loop-again returns)

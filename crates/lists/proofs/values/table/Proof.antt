@@ -1,3 +1,4 @@
+-- Loop (`Column`, of either array): the words before i are those of the strings, the others 0.
 use mathlib.Core.Path.{ap}
 use mathlib.Core.List.{[]}
 use Prim.Native.Nat.{_-_, _≤_}
@@ -5,9 +6,9 @@ use native.Mathlib.Omega.{arith}
 use lib.ListN.{getD}
 use Rattle.model.specs.Growth.{Entries}
 use Rattle.words.specs.declared.Entry.{Entry}
-use Rattle.lists.specs.Lists.{Holds}
+use Rattle.lists.specs.WorkingLists.{Holds}
 use Rattle.lists.proofs.Holding.{holds-length}
-use Rattle.lists.proofs.Answering.{Column, column-start, column-turn, column-table}
+use Rattle.lists.proofs.TableValues.{Column, column-start, column-turn, column-table}
 use borrow.Author.Needs.{needs}
 use Rattle.lists.proofs.values.table.Statement.{statement}
 use Rattle.lists.proofs.values.table.Tie as tie
@@ -72,17 +73,5 @@ pub table-spec : {M : Type 1} → statement M
 table-spec =
     tie.close
     (tie.spec
-    Inv-loop
-    μ-loop
-    loop-holds
-    mul-entry-of
-    element-copy-out-entry-of
-    entry-of-requires
-    mul-care
-    array-write-care
-    mul-value
-    array-write-value
-    add-i
-    loop-less
-    loop-again
-    returns)
+    Inv-loop μ-loop loop-holds mul-entry-of element-copy-out-entry-of entry-of-requires mul-care array-write-care mul-value
+    array-write-value add-i loop-less loop-again returns)

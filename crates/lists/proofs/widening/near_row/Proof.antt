@@ -1,26 +1,28 @@
+-- Loop (`Along`): the row has the near ones of the entries before i (`near-end`).
 use mathlib.Core.Path.{sym, _∙_}
 use mathlib.Core.List.{[]}
 use mathlib.Core.Logic.{⊎-elim}
 use Prim.Native.Nat.{ℕ, _-_, _≤_}
 use native.Mathlib.Omega.{arith}
 use borrow.Author.Needs.{needs}
-use lib.ListN.{getD, take}
-use Rattle.lists.specs.Lists.{Holds, OfString, near-list}
-use Rattle.lists.proofs.Holding.{holds-empty, holds-length}
-use Rattle.lists.proofs.Near.{near-add, near-pass, near-end}
+use lib.ListN.{getD}
+use Rattle.words.specs.Words.{near}
+use Rattle.lists.specs.WorkingLists.{OfString}
+use Rattle.lists.proofs.Holding.{holds-length}
+use Rattle.lists.proofs.NearEntries.{near-end}
+use Rattle.lists.proofs.RowLoops.{Along, row-start, row-add, row-skip, row-past}
 use Rattle.lists.proofs.widening.near_row.Statement.{statement}
 use Rattle.lists.proofs.widening.near_row.Tie as tie
 
 abbrev Inv-loop : tie.InvT-loop
-Inv-loop list n y near₀ k₀ i₀ near k i =
-    (i ≤ n) × (k ≤ i) × ((l : ℕ) → OfString l list n y (λ τ s. Holds l near k (near-list (take i τ) s)))
+Inv-loop list n y row₀ k₀ i₀ row k i =
+    (i ≤ n) × (k ≤ i) × ((l : ℕ) → OfString l list n y (λ τ s. Along l (λ e. near e s) (λ e. e) τ n row k i))
 
 abbrev μ-loop : tie.MeasureT-loop
-μ-loop list n y near₀ k₀ i₀ near k i = n - i
+μ-loop list n y row₀ k₀ i₀ row k i = n - i
 
 loop-holds : tie.Need-loop-holds Inv-loop μ-loop
-unfolding near-list
-loop-holds c = (omega arith, omega arith, λ l τ s h e y. holds-empty l _ (c .whole2 .given .0) (h .short))
+loop-holds c = (omega arith, omega arith, λ l τ s h e y. row-start (c .whole2 .given .0) (h .short))
 
 mul-e : tie.Need-mul-e Inv-loop μ-loop
 mul-e c = search needs
@@ -53,19 +55,19 @@ loop-again c =
       ⊎-elim (λ v. omega (arith, v .1)) (λ v. omega (arith, v .1)) (c .if1 .came),
       λ l τ s h e y.
           let d = holds-length h (w .i) (omega arith) in
-          let m = c .before .near .ensures .1 (getD τ (w .i) []) s (d ∙ sym e) (omega (arith, h .short))
-          (h .here (w .i) (omega arith)) y in
+          let is = h .here (w .i) (omega arith) in
+          let m = sym (c .before .near .ensures .1 (getD τ (w .i) []) s (d ∙ sym e) (omega (arith, h .short)) is y) in
           let p = w .inv .2 l τ s h e y in
           ⊎-elim
-          (λ u. rw (u .1) (near-add h s p (omega arith) (sym m ∙ u .0 .taken) (w .inv .1)))
-          (λ u. rw (u .1) (near-pass h s p (omega arith) (sym m ∙ u .0 .left)))
+          (λ u. rw (u .1) (row-add p (omega arith) (m ∙ u .0 .taken) is d (omega arith)))
+          (λ u. rw (u .1) (row-skip (row-past _ p) (omega arith) (m ∙ u .0 .left)))
           (c .if1 .came),
     )
 
 returns : tie.Need-returns Inv-loop μ-loop
 returns c =
     let w = c .before .loop in
-    (omega arith, λ l τ s h e y. near-end h s (w .inv .2 l τ s h e y) (omega arith) (w .inv .0))
+    (omega arith, λ l τ s h e y. near-end h s (w .inv .2 l τ s h e y) (omega arith))
 
 pub near-row-spec : {M : Type 1} → statement M
 near-row-spec =

@@ -1,3 +1,4 @@
+-- Loop: `found` has the positions that the entries before i open (`open-turn`, `open-end`).
 use mathlib.Core.Path.{_≡_, refl, sym, _∙_}
 use mathlib.Core.List.{[]}
 use Prim.Native.Nat.{ℕ, _-_, _≤_}
@@ -5,9 +6,9 @@ use native.Mathlib.Omega.{arith}
 use borrow.Author.Needs.{needs}
 use lib.ListN.{getD, take}
 use Rattle.words.specs.Words.{set-word}
-use Rattle.lists.specs.Lists.{OfString, open-set}
+use Rattle.lists.specs.WorkingLists.{OfString, open-set}
 use Rattle.lists.proofs.Holding.{holds-length}
-use Rattle.lists.proofs.Passes.{open-turn, open-end}
+use Rattle.lists.proofs.WideningByPasses.{open-turn, open-end}
 use Rattle.lists.proofs.widening.open_set.Statement.{statement}
 use Rattle.lists.proofs.widening.open_set.Tie as tie
 

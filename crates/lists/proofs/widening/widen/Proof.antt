@@ -1,17 +1,18 @@
+-- Loop (`WidenedSoFar`): to widen z from position i on gives the whole, and up to the next open position nothing changes.
 use Prim.Native.Nat.{_-_, _≤_, _<_}
 use native.Mathlib.Omega.{arith}
 use borrow.Author.Needs.{needs}
 use borrow.Author.Tests.{le-ltb, lt-ltb}
 use lib.ListN.{length}
 use Rattle.model.specs.Strings.{fixed-count}
-use Rattle.lists.specs.Lists.{OfString}
-use Rattle.lists.proofs.Passes.{Widened, widened-start, widened-few, widened-end, widened-none, widened-inside}
-use Rattle.lists.proofs.Passes.{widened-next, first-open}
+use Rattle.lists.specs.WorkingLists.{OfString}
+use Rattle.lists.proofs.WideningByPasses.{WidenedSoFar, widened-start, widened-few, widened-end, widened-none}
+use Rattle.lists.proofs.WideningByPasses.{widened-inside, widened-next, first-open}
 use Rattle.lists.proofs.widening.widen.Statement.{statement}
 use Rattle.lists.proofs.widening.widen.Tie as tie
 
 abbrev Inv-loop : tie.InvT-loop
-Inv-loop list n l y z₀ i₀ z i = (i ≤ l) × OfString l list n y (λ τ s. Widened l τ s z i)
+Inv-loop list n l y z₀ i₀ z i = (i ≤ l) × OfString l list n y (λ τ s. WidenedSoFar l τ s z i)
 
 abbrev μ-loop : tie.MeasureT-loop
 μ-loop list n l y z₀ i₀ z i = l - i
@@ -49,8 +50,9 @@ sub-if3 c = search needs
 
 returns-3 : tie.Need-returns-3 Inv-loop μ-loop
 returns-3 c = λ τ s h e y.
-    let w = c .before .before .before .before .before .before .loop .inv .1 τ s h e y in
-    let o = c .before .before .open-set .ensures _ τ _ h (w .long) (w .is) in
+    let at-open = c .before .before in
+    let w = at-open .before .before .before .before .loop .inv .1 τ s h e y in
+    let o = at-open .open-set .ensures _ τ _ h (w .long) (w .is) in
     let f = first-open w (h .good .wide) _ o 64 (omega arith) (c .before .if2 .left) in
     let n = widened-inside w (h .good .wide) _ f in
     absurd (omega arith)

@@ -1,11 +1,12 @@
+-- The near entries decide as the whole list does (`near-widen`, `near-subsumed`); then the three cases of the growth rule.
 use mathlib.Core.Path.{sym, ap, _∙_}
 use native.Mathlib.Omega.{arith}
 use borrow.Author.Needs.{needs}
 use Rattle.model.specs.Growth.{widen}
 use Rattle.model.proofs.Shape.{widen-length}
 use Rattle.words.specs.Words.{word}
-use Rattle.lists.specs.Lists.{makes}
-use Rattle.lists.proofs.Near.{near-widen, near-subsumed, widen-grow-zero, widen-grow-subsumed, widen-grow-new}
+use Rattle.lists.specs.WorkingLists.{makes}
+use Rattle.lists.proofs.NearEntries.{near-widen, near-subsumed, widen-grow-zero, widen-grow-subsumed, widen-grow-new}
 use Rattle.lists.proofs.widening.widen_grow.Statement.{statement}
 use Rattle.lists.proofs.widening.widen_grow.Tie as tie
 

@@ -1,3 +1,4 @@
+-- Loop (`SoFar`): the list is closed with each c before i; with the others, here or in `close_rest`, it becomes the whole.
 use mathlib.Core.Path.{refl, sym}
 use mathlib.Core.List.{[]}
 use Prim.Native.Nat.{_-_, _≤_}
@@ -6,15 +7,15 @@ use borrow.Author.Needs.{needs}
 use lib.ListN.{getD}
 use Rattle.model.specs.Growth.{Entries}
 use Rattle.model.specs.Tables.{close-with, close}
-use Rattle.lists.specs.Lists.{Holds, stops}
+use Rattle.lists.specs.WorkingLists.{Holds}
 use Rattle.lists.proofs.Holding.{holds-empty, holds-length, within-count}
-use Rattle.lists.proofs.Toward.{Toward, toward-start, toward-step, toward-stop, toward-end}
+use Rattle.lists.proofs.SoFar.{SoFar, Any, so-far-start, so-far-step, so-far-stop, so-far-end}
 use Rattle.procedures.proofs.closing.close.Statement.{statement}
 use Rattle.procedures.proofs.closing.close.Tie as tie
 
 abbrev Inv-loop : tie.InvT-loop
 Inv-loop c cn l list₀ row₀ n₀ i₀ list row n i =
-    (i ≤ cn) × (n ≤ 256) × ((γ : Entries) → Holds l c cn γ → Toward l close-with γ [] (close γ) list n i)
+    (i ≤ cn) × (n ≤ 256) × ((γ : Entries) → Holds l c cn γ → SoFar l close-with γ (close γ) Any list n i)
 
 abbrev μ-loop : tie.MeasureT-loop
 μ-loop c cn l list₀ row₀ n₀ i₀ list row n i = cn - i
@@ -24,7 +25,7 @@ unfolding close
 loop-holds c = (
   omega arith,
   omega arith,
-  λ γ h. toward-start _ close-with γ [] _ (holds-empty _ _ (c .whole2 .given .0) (h .short)) refl,
+  λ γ h. so-far-start (holds-empty _ _ (c .whole2 .given .0) (h .short)) refl tt,
 )
 
 close-rest-requires : tie.Need-close-rest-requires Inv-loop μ-loop
@@ -54,13 +55,14 @@ enum-told c = search needs
 returns-2 : tie.Need-returns-2 Inv-loop μ-loop
 returns-2 c =
     let at-close = c .before .before in
-    let lp = at-close .before .before .before .before .before .before .loop in (
+    let in-loop = at-close .before .before .before .before .before in
+    let lp = in-loop .before .loop in (
       tt,
       λ γ h.
           let w = lp .inv .2 γ h in
-          let told = at-close .close-one .ensures .1 _ (getD γ (lp .i) []) (w .held) (holds-length h (lp .i) (omega arith))
+          let made = at-close .close-one .ensures .1 _ (getD γ (lp .i) []) (w .held) (holds-length h (lp .i) (omega arith))
           (h .here (lp .i) (omega arith)) in
-          rw (toward-stop _ close-with γ [] _ w (omega (arith, h .count)) told (c .enum-told .given .1)) stops,
+          so-far-stop w [] (omega (arith, h .count)) made (c .enum-told .given .1),
     )
 
 add-i : tie.Need-add-i Inv-loop μ-loop
@@ -72,21 +74,22 @@ loop-less c = search needs
 loop-again : tie.Need-loop-again Inv-loop μ-loop
 loop-again c =
     let at-close = c .before .before .before in
-    let lp = at-close .before .before .before .before .before .before .loop in
+    let in-loop = at-close .before .before .before .before .before in
+    let lp = in-loop .before .loop in
     let is = c .before .k .given .1 in (
       omega arith,
       within-count (at-close .close-one .ensures .0) is,
       λ γ h.
           let w = lp .inv .2 γ h in
-          let told = at-close .close-one .ensures .1 _ (getD γ (lp .i) []) (w .held) (holds-length h (lp .i) (omega arith))
+          let made = at-close .close-one .ensures .1 _ (getD γ (lp .i) []) (w .held) (holds-length h (lp .i) (omega arith))
           (h .here (lp .i) (omega arith)) in
-          toward-step _ close-with γ [] _ w (omega (arith, h .count)) told is,
+          so-far-step w [] (omega (arith, h .count)) made is (λ κ s. tt),
     )
 
 returns-3 : tie.Need-returns-3 Inv-loop μ-loop
 returns-3 c =
     let lp = c .before .loop in
-    (lp .inv .1, λ γ h. toward-end _ close-with γ [] _ (lp .inv .2 γ h) (omega (arith, h .count)))
+    (lp .inv .1, λ γ h. so-far-end (lp .inv .2 γ h) (omega (arith, h .count)))
 
 pub close-spec : {M : Type 1} → statement M
 close-spec =

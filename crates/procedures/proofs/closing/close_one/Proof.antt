@@ -1,9 +1,10 @@
+-- To close with c is to grow by the row of its ors and then by c (`close-row`).
 use native.Mathlib.Omega.{arith}
 use borrow.Author.Needs.{needs}
 use Rattle.model.specs.Growth.{grow}
 use Rattle.lists.proofs.Holding.{within-count}
-use Rattle.lists.proofs.Steps.{makes-then, stops-then}
-use Rattle.procedures.proofs.Folds.{close-row}
+use Rattle.lists.proofs.BindLaws.{makes-then, stops-then}
+use Rattle.procedures.proofs.ProceduresAsFolds.{close-row}
 use Rattle.procedures.proofs.closing.close_one.Statement.{statement}
 use Rattle.procedures.proofs.closing.close_one.Tie as tie
 
@@ -20,7 +21,8 @@ grow-requires : tie.Need-grow-requires
 grow-requires c κs =
     let at-m = c .before .before in
     let at-each = at-m .before .before in
-    let start = at-each .before .before .before .before .before .before in
+    let at-row = at-each .before .before .before in
+    let start = at-row .before .before .before in
     (within-count (at-each .grow-each .ensures .0) (at-m .m .given .1), omega (arith, start .pre .1))
 
 enum-told : tie.Need-enum-told

@@ -1,11 +1,12 @@
+-- To close with c is to grow by the row of its ors and then by a row of c alone (`close-on`, `close-full`).
 use mathlib.Core.Path.{sym, _∙_}
 use mathlib.Core.Option.{Option·none-ne-some}
 use native.Mathlib.Omega.{arith}
 use borrow.Author.Needs.{needs}
-use Rattle.lists.specs.Lists.{stops}
+use Rattle.lists.specs.WorkingLists.{stops}
 use Rattle.lists.proofs.Holding.{makes-count, makes-full, within-count}
-use Rattle.procedures.proofs.RowLaws.{holds-one}
-use Rattle.procedures.proofs.Folds.{close-on, close-full}
+use Rattle.procedures.proofs.RowEnds.{holds-one}
+use Rattle.procedures.proofs.ProceduresAsFolds.{close-on, close-full}
 use Rattle.procedures.proofs.closing.close_unseen.Statement.{statement}
 use Rattle.procedures.proofs.closing.close_unseen.Tie as tie
 
@@ -24,9 +25,10 @@ element-write-row c = search needs
 grow-unseen-requires-2 : tie.Need-grow-unseen-requires-2
 grow-unseen-requires-2 c κs =
     let at-m = c .before .before .before .before in
-    let at-row = at-m .before .before in
-    let start = at-row .before .before .before .before .before .before .before in
-    (within-count (at-row .grow-unseen .ensures .0) (at-m .m .given .1), omega (arith, start .pre .1), omega arith)
+    let at-first = at-m .before .before in
+    let at-row = at-first .before .before .before .before in
+    let start = at-row .before .before .before in
+    (within-count (at-first .grow-unseen .ensures .0) (at-m .m .given .1), omega (arith, start .pre .1), omega arith)
 
 enum-told : tie.Need-enum-told
 enum-told c = search needs
@@ -64,11 +66,11 @@ returns-2 c =
       tt,
       (
         λ τ s h e is f.
-            let told = first τ _ h (at-row .pair-row .ensures .1 _ τ s h e is) f in
-            rw (close-full τ s (makes-full told is-full)) stops,
+            let made = first τ _ h (at-row .pair-row .ensures .1 _ τ s h e is) f in
+            rw (close-full τ s (makes-full made is-full)) stops,
         λ τ s h e is κ f q.
-            let told = first τ _ h (at-row .pair-row .ensures .1 _ τ s h e is) f in
-            absurd (Option·none-ne-some κ (sym (close-full τ s (makes-full told is-full)) ∙ q)),
+            let made = first τ _ h (at-row .pair-row .ensures .1 _ τ s h e is) f in
+            absurd (Option·none-ne-some κ (sym (close-full τ s (makes-full made is-full)) ∙ q)),
       ),
     )
 

@@ -1,10 +1,11 @@
+-- Growth by one string and then change of side, full where one of them is (`makes-then`, `stops-then`).
 use mathlib.Core.Path.{_∙_}
 use native.Mathlib.Omega.{arith}
 use Rattle.model.specs.Strings.{zeros}
 use Rattle.model.specs.Tables.{change-side}
 use Rattle.model.proofs.Candidates.{zeros-length}
 use Rattle.lists.proofs.Holding.{within-count}
-use Rattle.lists.proofs.Steps.{makes-then, stops-then}
+use Rattle.lists.proofs.BindLaws.{makes-then, stops-then}
 use Rattle.procedures.specs.Parts.{having-set}
 use Rattle.procedures.proofs.Sets.{zeros-shl}
 use borrow.Author.Needs.{needs}

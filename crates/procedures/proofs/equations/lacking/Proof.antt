@@ -1,3 +1,4 @@
+-- The row that `ones_row` makes, grown.
 use borrow.Author.Needs.{needs}
 use Rattle.procedures.proofs.equations.lacking.Statement.{statement}
 use Rattle.procedures.proofs.equations.lacking.Tie as tie

@@ -1,10 +1,11 @@
+-- The meets of the table with the one string that has 0 at all of the set, which `other` holds (`holds-one`, `zeros-shl`).
 use mathlib.Core.Path.{_∙_}
 use borrow.Author.Needs.{needs}
 use Rattle.model.specs.Strings.{zeros}
 use Rattle.model.specs.Tables.{irrelevant}
 use Rattle.model.proofs.Candidates.{zeros-length}
 use Rattle.procedures.specs.Pairs.{pairs-of}
-use Rattle.procedures.proofs.RowLaws.{holds-one}
+use Rattle.procedures.proofs.RowEnds.{holds-one}
 use Rattle.procedures.proofs.Sets.{zeros-shl}
 use Rattle.procedures.proofs.pairs.irrelevant.Statement.{statement}
 use Rattle.procedures.proofs.pairs.irrelevant.Tie as tie

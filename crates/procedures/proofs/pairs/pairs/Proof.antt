@@ -1,3 +1,4 @@
+-- Both ways promise the same, and 256 times 256 fits.
 use native.Mathlib.Nat.{mul-le-mul}
 use native.Mathlib.Omega.{arith}
 use borrow.Author.Needs.{needs}

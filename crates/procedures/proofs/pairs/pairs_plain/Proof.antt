@@ -1,14 +1,15 @@
+-- Loop (`SoFar`): the rows of the strings of a before i are grown; row by row is all pairs in order (`pairs-fold`).
 use mathlib.Core.List.{[]}
 use Prim.Native.Nat.{_-_, _≤_}
 use native.Mathlib.Omega.{arith}
 use borrow.Author.Needs.{needs}
 use lib.ListN.{getD}
 use Rattle.model.specs.Growth.{Entries, grow-all}
-use Rattle.lists.specs.Lists.{Holds, stops}
+use Rattle.lists.specs.WorkingLists.{Holds}
 use Rattle.lists.proofs.Holding.{holds-empty, holds-length, within-count}
-use Rattle.lists.proofs.Toward.{Toward, toward-start, toward-step, toward-stop, toward-end}
+use Rattle.lists.proofs.SoFar.{SoFar, Any, so-far-start, so-far-step, so-far-stop, so-far-end}
 use Rattle.procedures.specs.Pairs.{pairs-of}
-use Rattle.procedures.proofs.Folds.{pair-step, pairs-fold}
+use Rattle.procedures.proofs.ProceduresAsFolds.{pair-step, pairs-fold}
 use Rattle.procedures.proofs.pairs.pairs_plain.Statement.{statement}
 use Rattle.procedures.proofs.pairs.pairs_plain.Tie as tie
 
@@ -16,7 +17,7 @@ abbrev Inv-loop : tie.InvT-loop
 Inv-loop op a an b bn l list₀ row₀ n₀ i₀ list row n i =
     (i ≤ an) × (n ≤ 256)
     × ((α β : Entries) → Holds l a an α → Holds l b bn β
-    → Toward l (pair-step op β) α [] (grow-all [] (pairs-of op α β)) list n i)
+    → SoFar l (pair-step op β) α (grow-all [] (pairs-of op α β)) Any list n i)
 
 abbrev μ-loop : tie.MeasureT-loop
 μ-loop op a an b bn l list₀ row₀ n₀ i₀ list row n i = an - i
@@ -25,7 +26,7 @@ loop-holds : tie.Need-loop-holds Inv-loop μ-loop
 loop-holds c = (
   omega arith,
   omega arith,
-  λ α β h k. toward-start _ (pair-step _ β) α [] _ (holds-empty _ _ (c .whole2 .given .0) (h .short)) (pairs-fold _ β [] α),
+  λ α β h k. so-far-start (holds-empty _ _ (c .whole2 .given .0) (h .short)) (pairs-fold _ β [] α) tt,
 )
 
 mul-pair-row : tie.Need-mul-pair-row Inv-loop μ-loop
@@ -56,8 +57,8 @@ returns c =
           let w = lp .inv .2 α β h k in
           let row = at-row .pair-row .ensures .1 _ β (getD α (lp .i) []) k (holds-length h (lp .i) (omega arith))
           (h .here (lp .i) (omega arith)) in
-          let told = at-grow .grow-each .ensures .1 _ _ (w .held) row in
-          rw (toward-stop _ (pair-step _ β) α [] _ w (omega (arith, h .count)) told (c .enum-told .given .1)) stops,
+          let made = at-grow .grow-each .ensures .1 _ _ (w .held) row in
+          so-far-stop w [] (omega (arith, h .count)) made (c .enum-told .given .1),
     )
 
 add-i : tie.Need-add-i Inv-loop μ-loop
@@ -78,13 +79,13 @@ loop-again c =
           let w = lp .inv .2 α β h k in
           let row = at-row .pair-row .ensures .1 _ β (getD α (lp .i) []) k (holds-length h (lp .i) (omega arith))
           (h .here (lp .i) (omega arith)) in
-          toward-step _ (pair-step _ β) α [] _ w (omega (arith, h .count)) (at-grow .grow-each .ensures .1 _ _ (w .held) row) is,
+          so-far-step w [] (omega (arith, h .count)) (at-grow .grow-each .ensures .1 _ _ (w .held) row) is (λ κ s. tt),
     )
 
 returns-2 : tie.Need-returns-2 Inv-loop μ-loop
 returns-2 c =
     let lp = c .before .loop in
-    (lp .inv .1, λ α β h k. toward-end _ (pair-step _ β) α [] _ (lp .inv .2 α β h k) (omega (arith, h .count)))
+    (lp .inv .1, λ α β h k. so-far-end (lp .inv .2 α β h k) (omega (arith, h .count)))
 
 pub pairs-plain-spec : {M : Type 1} → statement M
 pairs-plain-spec =

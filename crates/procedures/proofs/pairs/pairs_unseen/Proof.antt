@@ -1,16 +1,17 @@
+-- Loop (`SoFar`): as in `pairs_plain`, and the list absorbs all that the filter holds.
 use mathlib.Core.List.{[]}
 use Prim.Native.Nat.{_-_, _≤_}
 use native.Mathlib.Omega.{arith}
 use borrow.Author.Needs.{needs}
 use lib.ListN.{getD}
 use Rattle.model.specs.Growth.{Entries, grow-all}
-use Rattle.lists.specs.Lists.{Holds, stops}
+use Rattle.lists.specs.WorkingLists.{Holds}
+use Rattle.lists.specs.Filters.{Filters}
 use Rattle.lists.proofs.Holding.{holds-empty, holds-length, within-count}
-use Rattle.lists.proofs.Toward.{toward-stop, toward-end}
+use Rattle.lists.proofs.SoFar.{SoFar, so-far-start, so-far-step, so-far-stop, so-far-end}
 use Rattle.procedures.specs.Pairs.{pairs-of}
-use Rattle.lists.proofs.Idling.{filter-start}
-use Rattle.procedures.proofs.Folds.{pair-step, pairs-fold}
-use Rattle.procedures.proofs.Filtering.{Filtering, filtering-start, filtering-step}
+use Rattle.lists.proofs.Absorption.{filter-start}
+use Rattle.procedures.proofs.ProceduresAsFolds.{pair-step, pairs-fold}
 use Rattle.procedures.proofs.pairs.pairs_unseen.Statement.{statement}
 use Rattle.procedures.proofs.pairs.pairs_unseen.Tie as tie
 
@@ -18,7 +19,7 @@ abbrev Inv-loop : tie.InvT-loop
 Inv-loop op a an b bn l list₀ row₀ seen₀ n₀ i₀ list row seen n i =
     (i ≤ an) × (n ≤ 256)
     × ((α β : Entries) → Holds l a an α → Holds l b bn β
-    → Filtering l (pair-step op β) α [] (grow-all [] (pairs-of op α β)) list seen n i)
+    → SoFar l (pair-step op β) α (grow-all [] (pairs-of op α β)) (Filters l seen) list n i)
 
 abbrev μ-loop : tie.MeasureT-loop
 μ-loop op a an b bn l list₀ row₀ seen₀ n₀ i₀ list row seen n i = an - i
@@ -31,7 +32,7 @@ loop-holds c = (
   omega arith,
   omega arith,
   λ α β h k.
-      filtering-start _ (pair-step _ β) α [] _ (holds-empty _ _ (c .before .whole2 .given .0) (h .short)) (pairs-fold _ β [] α)
+      so-far-start (holds-empty _ _ (c .before .whole2 .given .0) (h .short)) (pairs-fold _ β [] α)
       (filter-start _ (h .short) (c .zero .ensures .0)),
 )
 
@@ -61,11 +62,10 @@ returns c =
       tt,
       λ α β h k.
           let w = lp .inv .2 α β h k in
-          let now = w .toward in
           let row = at-row .pair-row .ensures .1 _ β (getD α (lp .i) []) k (holds-length h (lp .i) (omega arith))
           (h .here (lp .i) (omega arith)) in
-          let told = at-grow .grow-unseen .ensures .1 .0 _ _ (now .held) row (w .filter) in
-          rw (toward-stop _ (pair-step _ β) α [] _ now (omega (arith, h .count)) told (c .enum-told .given .1)) stops,
+          let made = at-grow .grow-unseen .ensures .1 .0 _ _ (w .held) row (w .known) in
+          so-far-stop w [] (omega (arith, h .count)) made (c .enum-told .given .1),
     )
 
 add-i : tie.Need-add-i Inv-loop μ-loop
@@ -84,18 +84,16 @@ loop-again c =
       within-count (at-grow .grow-unseen .ensures .0) is,
       λ α β h k.
           let w = lp .inv .2 α β h k in
-          let now = w .toward in
           let row = at-row .pair-row .ensures .1 _ β (getD α (lp .i) []) k (holds-length h (lp .i) (omega arith))
           (h .here (lp .i) (omega arith)) in
-          filtering-step _ (pair-step _ β) α [] _ w (omega (arith, h .count))
-          (at-grow .grow-unseen .ensures .1 .0 _ _ (now .held) row (w .filter))
-          (λ κ. at-grow .grow-unseen .ensures .1 .1 _ _ κ (now .held) row (w .filter)) is,
+          so-far-step w [] (omega (arith, h .count)) (at-grow .grow-unseen .ensures .1 .0 _ _ (w .held) row (w .known)) is
+          (λ κ. at-grow .grow-unseen .ensures .1 .1 _ _ κ (w .held) row (w .known)),
     )
 
 returns-2 : tie.Need-returns-2 Inv-loop μ-loop
 returns-2 c =
     let lp = c .before .loop in
-    (lp .inv .1, λ α β h k. toward-end _ (pair-step _ β) α [] _ (lp .inv .2 α β h k .toward) (omega (arith, h .count)))
+    (lp .inv .1, λ α β h k. so-far-end (lp .inv .2 α β h k) (omega (arith, h .count)))
 
 pub pairs-unseen-spec : {M : Type 1} → statement M
 pairs-unseen-spec =

@@ -1,3 +1,4 @@
+-- The meets of the table with the strings that `ones_row` makes.
 use borrow.Author.Needs.{needs}
 use Rattle.model.specs.Tables.{relevant}
 use Rattle.procedures.specs.Pairs.{pairs-of}

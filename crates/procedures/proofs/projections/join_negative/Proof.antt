@@ -1,3 +1,4 @@
+-- By definition: all meets.
 use Rattle.model.specs.Tables.{join}
 use Rattle.procedures.specs.Pairs.{pairs-of}
 use borrow.Author.Needs.{needs}

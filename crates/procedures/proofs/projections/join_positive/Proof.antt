@@ -1,3 +1,4 @@
+-- By definition: the first list grown by the second.
 use Rattle.model.specs.Tables.{join}
 use borrow.Author.Needs.{needs}
 use Rattle.procedures.proofs.projections.join_positive.Statement.{statement}

@@ -1,9 +1,10 @@
+-- Its three parts one after another, full where one is; the last width is the number of kept positions (`kept-ones`).
 use mathlib.Core.Path.{ap, _∙_}
 use lib.Count.{ones, ones-le}
 use Rattle.model.specs.Growth.{_>>=_}
 use Rattle.model.specs.Tables.{change-side, kept, positive-projection, projection}
 use Rattle.lists.proofs.Holding.{within-count}
-use Rattle.lists.proofs.Steps.{makes-then, stops-then}
+use Rattle.lists.proofs.BindLaws.{makes-then, stops-then}
 use Rattle.procedures.proofs.Sets.{kept-ones}
 use borrow.Author.Needs.{needs}
 use Rattle.procedures.proofs.projections.negative.Statement.{statement}
@@ -27,7 +28,8 @@ change-side-requires-2 : tie.Need-change-side-requires-2
 change-side-requires-2 c κs =
     let at-k = c .before .before .before in
     let at-positive = at-k .before .before in
-    let start = at-positive .before .before .before .before .before .before .before .before in
+    let at-n = at-positive .before .before .before .before in
+    let start = at-n .before .before .before .before in
     (within-count (at-positive .positive .ensures .0) (at-k .k .given .1), ones-le 32 _ (start .fits .keep .fits))
 
 enum-told : tie.Need-enum-told

@@ -1,3 +1,4 @@
+-- The row of cut strings, grown; their width is the number of kept positions (`kept-ones`).
 use mathlib.Core.Path.{ap, _∙_}
 use mathlib.Core.List.{[]}
 use native.Mathlib.Omega.{arith}
@@ -14,7 +15,8 @@ cut-row-requires c κs = search needs
 
 grow-each-requires : tie.Need-grow-each-requires
 grow-each-requires c κs =
-    let start = c .before .before .before .before .before .before in
+    let at-row = c .before .before in
+    let start = at-row .before .before .before .before in
     (omega arith, ones-le 32 _ (start .fits .keep .fits), omega arith)
 
 returns : tie.Need-returns

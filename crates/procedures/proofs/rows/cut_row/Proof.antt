@@ -1,3 +1,4 @@
+-- Loop (`Along`): the row has the cut of each string before i (`map-end`).
 use mathlib.Core.Path.{_≡_, refl, sym}
 use mathlib.Core.Bool.{true}
 use mathlib.Core.List.{[]}
@@ -10,10 +11,10 @@ use Rattle.model.specs.Growth.{Entries}
 use Rattle.model.specs.Tables.{kept}
 use Rattle.model.proofs.Projection.{cut-length}
 use Rattle.words.specs.Words.{set-word}
-use Rattle.lists.specs.Lists.{Holds}
+use Rattle.lists.specs.WorkingLists.{Holds}
 use Rattle.lists.proofs.Holding.{holds-length}
-use Rattle.procedures.proofs.Filling.{Along, fill-start, fill-add}
-use Rattle.procedures.proofs.RowLaws.{map-end, kept-le}
+use Rattle.lists.proofs.RowLoops.{Along, row-start, row-add}
+use Rattle.procedures.proofs.RowEnds.{map-end, kept-le}
 use Rattle.procedures.proofs.rows.cut_row.Statement.{statement}
 use Rattle.procedures.proofs.rows.cut_row.Tie as tie
 
@@ -27,7 +28,7 @@ abbrev μ-loop : tie.MeasureT-loop
 μ-loop list n keep row₀ i₀ row i = n - i
 
 loop-holds : tie.Need-loop-holds Inv-loop μ-loop
-loop-holds c = (omega arith, λ k τ h m. fill-start (c .whole2 .given .0) (omega (arith, kept-le k, h .short)))
+loop-holds c = (omega arith, λ k τ h m. row-start (c .whole2 .given .0) (omega (arith, kept-le k, h .short)))
 
 mul-cut : tie.Need-mul-cut Inv-loop μ-loop
 mul-cut c = search needs
@@ -56,7 +57,7 @@ loop-again c =
       omega arith,
       λ k τ h m.
           let d = holds-length h (w .i) (omega arith) in
-          fill-add (w .inv .1 k τ h m) (omega arith) refl
+          row-add (w .inv .1 k τ h m) (omega arith) refl
           (c .cut .ensures .1 k (getD τ (w .i) []) (sym d) (rw d (h .short)) m (h .here (w .i) (omega arith)))
           (cut-length k (getD τ (w .i) []) d) (omega arith),
     )

@@ -1,3 +1,4 @@
+-- Loop (`Along`): the row has the meets with the strings before i that a matches (`meets-end`).
 use mathlib.Core.Path.{sym, _∙_}
 use mathlib.Core.List.{[]}
 use mathlib.Core.Logic.{⊎-elim}
@@ -7,10 +8,10 @@ use borrow.Author.Needs.{needs}
 use lib.ListN.{length, getD}
 use Rattle.model.specs.Strings.{matches, meet}
 use Rattle.model.proofs.Candidates.{meet-length}
-use Rattle.lists.specs.Lists.{OfString}
+use Rattle.lists.specs.WorkingLists.{OfString}
 use Rattle.lists.proofs.Holding.{holds-length}
-use Rattle.procedures.proofs.Filling.{Along, fill-start, fill-add, fill-pass, fill-past}
-use Rattle.procedures.proofs.RowLaws.{meets-end}
+use Rattle.lists.proofs.RowLoops.{Along, row-start, row-add, row-skip, row-past}
+use Rattle.procedures.proofs.RowEnds.{meets-end}
 use Rattle.procedures.proofs.rows.meet_row.Statement.{statement}
 use Rattle.procedures.proofs.rows.meet_row.Tie as tie
 
@@ -22,7 +23,7 @@ abbrev μ-loop : tie.MeasureT-loop
 μ-loop list n a row₀ k₀ i₀ row k i = n - i
 
 loop-holds : tie.Need-loop-holds Inv-loop μ-loop
-loop-holds c = (omega arith, omega arith, λ l τ s h e a. fill-start (c .whole2 .given .0) (h .short))
+loop-holds c = (omega arith, omega arith, λ l τ s h e a. row-start (c .whole2 .given .0) (h .short))
 
 mul-e : tie.Need-mul-e Inv-loop μ-loop
 mul-e c = search needs
@@ -67,9 +68,9 @@ loop-again c =
           ⊎-elim
           (λ v.
           rw (v .1)
-          (fill-add p (omega arith) (t ∙ v .0 .taken)
+          (row-add p (omega arith) (t ∙ v .0 .taken)
           (at-meet .meet .ensures .1 s r (e ∙ sym d) short a is (t ∙ v .0 .taken)) (meet-length l s r e d) (omega arith)))
-          (λ v. rw (v .1) (fill-pass (fill-past (at-meet .meet .result) p) (omega arith) (t ∙ v .0 .left)))
+          (λ v. rw (v .1) (row-skip (row-past (at-meet .meet .result) p) (omega arith) (t ∙ v .0 .left)))
           (c .if1 .came),
     )
 

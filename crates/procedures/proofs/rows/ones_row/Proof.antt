@@ -1,3 +1,4 @@
+-- Loop (`RowSoFar`): the row has a string for each variable of the set before position i (`ones-end`).
 use mathlib.Core.Path.{_≡_, sym, _∙_}
 use mathlib.Core.Bool.{false}
 use mathlib.Core.Logic.{⊎-elim}
@@ -13,21 +14,21 @@ use Rattle.words.specs.Words.{set-word}
 use Rattle.words.proofs.Codec.{set-bit}
 use Rattle.words.proofs.Positions.{one-shl}
 use Rattle.words.proofs.Words.{one-word}
-use Rattle.procedures.proofs.Filling.{Filling, fill-start, fill-add, fill-pass}
-use Rattle.procedures.proofs.RowLaws.{ones-end}
+use Rattle.lists.proofs.RowLoops.{RowSoFar, row-start, row-add, row-skip}
+use Rattle.procedures.proofs.RowEnds.{ones-end}
 use Rattle.procedures.proofs.rows.ones_row.Statement.{statement}
 use Rattle.procedures.proofs.rows.ones_row.Tie as tie
 
 abbrev Inv-loop : tie.InvT-loop
 Inv-loop m l row₀ k₀ i₀ row k i =
     (i ≤ l) × (k ≤ i)
-    × ((g : Bits) → length g ≡ l → m ≡ set-word g → Filling l (λ j. getD g j false) (one-at l) l row k i)
+    × ((g : Bits) → length g ≡ l → m ≡ set-word g → RowSoFar l (λ j. getD g j false) (one-at l) l row k i)
 
 abbrev μ-loop : tie.MeasureT-loop
 μ-loop m l row₀ k₀ i₀ row k i = l - i
 
 loop-holds : tie.Need-loop-holds Inv-loop μ-loop
-loop-holds c = (omega arith, omega arith, λ g e m. fill-start (c .whole2 .given .0) (omega arith))
+loop-holds c = (omega arith, omega arith, λ g e m. row-start (c .whole2 .given .0) (omega arith))
 
 shr-if1 : tie.Need-shr-if1 Inv-loop μ-loop
 shr-if1 c = search needs
@@ -64,9 +65,9 @@ loop-again c =
           ⊎-elim
           (λ v.
           rw (v .1, v .2, one-shl (w .i) 64 (omega arith))
-          (fill-add p (omega arith) (t ∙ eq-eqb _ 1 (v .0 .taken)) (sym (one-word _ (w .i) (omega arith)))
+          (row-add p (omega arith) (t ∙ eq-eqb _ 1 (v .0 .taken)) (sym (one-word _ (w .i) (omega arith)))
           (one-at-length _ (w .i)) (omega arith)))
-          (λ v. rw (v .1, v .2) (fill-pass p (omega arith) (t ∙ ne-eqb _ 1 (v .0 .left))))
+          (λ v. rw (v .1, v .2) (row-skip p (omega arith) (t ∙ ne-eqb _ 1 (v .0 .left))))
           (c .if1 .came),
     )
 

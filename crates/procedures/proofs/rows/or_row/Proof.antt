@@ -1,3 +1,4 @@
+-- Loop (`Along`): the row has the or of a with each string before i (`map-end`).
 use mathlib.Core.Path.{refl, sym, _∙_}
 use mathlib.Core.Bool.{true}
 use mathlib.Core.List.{[]}
@@ -7,10 +8,10 @@ use borrow.Author.Needs.{needs}
 use lib.ListN.{getD}
 use Rattle.model.specs.Strings.{or-strings}
 use Rattle.model.proofs.Candidates.{or-strings-length}
-use Rattle.lists.specs.Lists.{OfString}
+use Rattle.lists.specs.WorkingLists.{OfString}
 use Rattle.lists.proofs.Holding.{holds-length}
-use Rattle.procedures.proofs.Filling.{Along, fill-start, fill-add}
-use Rattle.procedures.proofs.RowLaws.{map-end}
+use Rattle.lists.proofs.RowLoops.{Along, row-start, row-add}
+use Rattle.procedures.proofs.RowEnds.{map-end}
 use Rattle.procedures.proofs.rows.or_row.Statement.{statement}
 use Rattle.procedures.proofs.rows.or_row.Tie as tie
 
@@ -22,7 +23,7 @@ abbrev μ-loop : tie.MeasureT-loop
 μ-loop list n a row₀ i₀ row i = n - i
 
 loop-holds : tie.Need-loop-holds Inv-loop μ-loop
-loop-holds c = (omega arith, λ l τ s h e a. fill-start (c .whole2 .given .0) (h .short))
+loop-holds c = (omega arith, λ l τ s h e a. row-start (c .whole2 .given .0) (h .short))
 
 mul-or : tie.Need-mul-or Inv-loop μ-loop
 mul-or c = search needs
@@ -51,7 +52,7 @@ loop-again c =
       omega arith,
       λ l τ s h e a.
           let d = holds-length h (w .i) (omega arith) in
-          fill-add (w .inv .1 l τ s h e a) (omega arith) refl
+          row-add (w .inv .1 l τ s h e a) (omega arith) refl
           (c .or .ensures .1 s (getD τ (w .i) []) (e ∙ sym d) (rw e (h .short)) a (h .here (w .i) (omega arith)))
           (or-strings-length l s (getD τ (w .i) []) e d) (omega arith),
     )

@@ -1,3 +1,4 @@
+-- By the operation: what `or_row` or `meet_row` makes.
 use borrow.Author.Needs.{needs}
 use Rattle.procedures.specs.Pairs.{row-of}
 use Rattle.procedures.proofs.rows.pair_row.Statement.{statement}
@@ -18,14 +19,14 @@ meet-row-requires c κs = search needs
 returns : tie.Need-returns
 unfolding row-of
 returns c =
-    let told = c .before .before in
-    (told .before .before .pre, λ l τ s. rw (told .enum-told .given .1) (c .or-row .ensures l τ s))
+    let made = c .before .before in
+    (made .before .before .pre, λ l τ s. rw (made .enum-told .given .1) (c .or-row .ensures l τ s))
 
 returns-2 : tie.Need-returns-2
 unfolding row-of
 returns-2 c =
-    let told = c .before .before in
-    (c .meet-row .ensures .0, λ l τ s. rw (told .enum-told2 .given .1) (c .meet-row .ensures .1 l τ s))
+    let made = c .before .before in
+    (c .meet-row .ensures .0, λ l τ s. rw (made .enum-told2 .given .1) (c .meet-row .ensures .1 l τ s))
 
 pub pair-row-spec : {M : Type 1} → statement M
 pair-row-spec =

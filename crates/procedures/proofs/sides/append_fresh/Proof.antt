@@ -1,8 +1,9 @@
+-- The three cases of `fresh`: `fresh-zero`, `fresh-subsumed`, `fresh-new`.
 use mathlib.Core.Path.{sym, _∙_}
 use native.Mathlib.Omega.{arith}
 use borrow.Author.Needs.{needs}
-use Rattle.lists.specs.Lists.{makes}
-use Rattle.procedures.proofs.Placing.{fresh-zero, fresh-subsumed, fresh-new}
+use Rattle.lists.specs.WorkingLists.{makes}
+use Rattle.procedures.proofs.PieceLoop.{fresh-zero, fresh-subsumed, fresh-new}
 use Rattle.procedures.proofs.sides.append_fresh.Statement.{statement}
 use Rattle.procedures.proofs.sides.append_fresh.Tie as tie
 

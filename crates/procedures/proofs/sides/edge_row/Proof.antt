@@ -1,3 +1,4 @@
+-- Loop (`Along`): the row has those of the entries before i that are opposed to v at most once (`edges-end`).
 use mathlib.Core.Path.{sym, _∙_}
 use mathlib.Core.List.{[]}
 use mathlib.Core.Logic.{⊎-elim}
@@ -7,10 +8,10 @@ use borrow.Author.Needs.{needs}
 use lib.Dec.{ltb}
 use lib.ListN.{getD}
 use Rattle.model.specs.Widest.{opposed-count}
-use Rattle.lists.specs.Lists.{OfString}
+use Rattle.lists.specs.WorkingLists.{OfString}
 use Rattle.lists.proofs.Holding.{holds-length}
-use Rattle.procedures.proofs.Filling.{Along, fill-start, fill-add, fill-pass, fill-past}
-use Rattle.procedures.proofs.RowLaws.{edges-end}
+use Rattle.lists.proofs.RowLoops.{Along, row-start, row-add, row-skip, row-past}
+use Rattle.procedures.proofs.RowEnds.{edges-end}
 use Rattle.procedures.proofs.sides.edge_row.Statement.{statement}
 use Rattle.procedures.proofs.sides.edge_row.Tie as tie
 
@@ -23,7 +24,7 @@ abbrev μ-loop : tie.MeasureT-loop
 μ-loop list n v row₀ k₀ i₀ row k i = n - i
 
 loop-holds : tie.Need-loop-holds Inv-loop μ-loop
-loop-holds c = (omega arith, omega arith, λ l τ t h e v. fill-start (c .whole2 .given .0) (h .short))
+loop-holds c = (omega arith, omega arith, λ l τ t h e v. row-start (c .whole2 .given .0) (h .short))
 
 mul-e : tie.Need-mul-e Inv-loop μ-loop
 mul-e c = search needs
@@ -61,8 +62,8 @@ loop-again c =
           let m = sym (c .before .opposed-once .ensures .1 r t (d ∙ sym e) (omega (arith, h .short)) is v) in
           let p = w .inv .2 l τ t h e v in
           ⊎-elim
-          (λ u. rw (u .1) (fill-add p (omega arith) (m ∙ u .0 .taken) is d (omega arith)))
-          (λ u. rw (u .1) (fill-pass (fill-past _ p) (omega arith) (m ∙ u .0 .left)))
+          (λ u. rw (u .1) (row-add p (omega arith) (m ∙ u .0 .taken) is d (omega arith)))
+          (λ u. rw (u .1) (row-skip (row-past _ p) (omega arith) (m ∙ u .0 .left)))
           (c .if1 .came),
     )
 

@@ -1,3 +1,4 @@
+-- Loop (`PiecesSoFar`): to append the pieces at the positions left gives the whole; a turn takes the lowest of them.
 use mathlib.Core.Path.{_≡_, sym, _∙_}
 use Prim.Native.Nat.{_-_, _≤_, _<_, _^_}
 use native.Mathlib.Omega.{arith}
@@ -10,10 +11,10 @@ use Rattle.model.specs.Growth.{Entries}
 use Rattle.model.proofs.Positions.{opposed-length}
 use Rattle.words.specs.Words.{word}
 use Rattle.words.proofs.Clearing.{trailing-lt}
-use Rattle.lists.specs.Lists.{Holds, stops}
+use Rattle.lists.specs.WorkingLists.{Holds, stops}
 use Rattle.lists.proofs.Holding.{within-count}
 use Rattle.procedures.specs.Parts.{append-pieces}
-use Rattle.procedures.proofs.Placing.{Placing, placing-start, placing-open, placing-step, placing-stop, placing-end}
+use Rattle.procedures.proofs.PieceLoop.{PiecesSoFar, pieces-start, pieces-open, pieces-step, pieces-stop, pieces-end}
 use Rattle.procedures.proofs.sides.pieces.Statement.{statement}
 use Rattle.procedures.proofs.sides.pieces.Tie as tie
 
@@ -21,7 +22,7 @@ abbrev Inv-loop : tie.InvT-loop
 Inv-loop list₀ n l y v edges m left₀ k₀ list left k =
     (left < 2 ^ 32) × (k ≤ 256)
     × ((τ κ : Entries) (s t : Trits) → Holds l list₀ n τ → Holds l edges m κ → length s ≡ l → length t ≡ l → y ≡ word s
-    → v ≡ word t → Placing l κ s t (append-pieces κ t τ s) list k left)
+    → v ≡ word t → PiecesSoFar l κ s t (append-pieces κ t τ s) list k left)
 
 abbrev μ-loop : tie.MeasureT-loop
 μ-loop list₀ n l y v edges m left₀ k₀ list left k = left
@@ -39,7 +40,7 @@ loop-holds c =
       omega arith,
       λ τ κ s t h g d e y v.
           rw (at-v .fixed .ensures .1 .1 t (omega (arith, e)) v, c .fixed2 .ensures .1 .1 s (omega (arith, d)) y)
-          (placing-start κ s t h d e),
+          (pieces-start κ s t h d e),
     )
 
 opposed-requires : tie.Need-opposed-requires Inv-loop μ-loop
@@ -66,10 +67,10 @@ returns c =
           let w = lp .inv .2 τ κ s t h g d e y v in
           let small : lp .left < 2 ^ 64 = omega arith in
           let some : ¬ (lp .left ≡ 0) = λ z. absurd (omega (arith, z)) in
-          let at = placing-open w small some in
+          let at = pieces-open w small some in
           let z = at-opposed .opposed .ensures .1 s t (d ∙ sym e) (omega (arith, d)) y v (not-true _ (at .0)) (at .1) in
-          let told = at-append .append-fresh .ensures .1 _ κ _ (w .held) g (opposed-length _ t s ∙ d) z in
-          rw (placing-stop w small some told (c .enum-told .given .1)) stops,
+          let made = at-append .append-fresh .ensures .1 _ κ _ (w .held) g (opposed-length _ t s ∙ d) z in
+          rw (pieces-stop w small some made (c .enum-told .given .1)) stops,
     )
 
 sub-left : tie.Need-sub-left Inv-loop μ-loop
@@ -77,7 +78,8 @@ sub-left c = search needs
 
 loop-less : tie.Need-loop-less Inv-loop μ-loop
 loop-less c =
-    let lp = c .before .before .before .before .before .before .before .loop in
+    let at-append = c .before .before .before in
+    let lp = at-append .before .before .before .before .loop in
     omega (arith, and-le-r (lp .left) (lp .left - 1))
 
 loop-again : tie.Need-loop-again Inv-loop μ-loop
@@ -92,16 +94,16 @@ loop-again c =
           let w = lp .inv .2 τ κ s t h g d e y v in
           let small : lp .left < 2 ^ 64 = omega arith in
           let some : ¬ (lp .left ≡ 0) = λ z. absurd (omega (arith, z)) in
-          let at = placing-open w small some in
+          let at = pieces-open w small some in
           let z = at-opposed .opposed .ensures .1 s t (d ∙ sym e) (omega (arith, d)) y v (not-true _ (at .0)) (at .1) in
-          let told = at-append .append-fresh .ensures .1 _ κ _ (w .held) g (opposed-length _ t s ∙ d) z in
-          placing-step w small some told got,
+          let made = at-append .append-fresh .ensures .1 _ κ _ (w .held) g (opposed-length _ t s ∙ d) z in
+          pieces-step w small some made got,
     )
 
 returns-2 : tie.Need-returns-2 Inv-loop μ-loop
 returns-2 c =
     let lp = c .before .loop in
-    (lp .inv .1, λ τ κ s t h g d e y v. placing-end (lp .inv .2 τ κ s t h g d e y v) (omega arith))
+    (lp .inv .1, λ τ κ s t h g d e y v. pieces-end (lp .inv .2 τ κ s t h g d e y v) (omega arith))
 
 pub pieces-spec : {M : Type 1} → statement M
 pieces-spec =

@@ -1,3 +1,4 @@
+-- Loop (`SoFar`): the pieces of the strings before j are appended, and to go on with the others gives the whole.
 use mathlib.Core.Path.{_≡_, refl}
 use mathlib.Core.List.{[]}
 use Prim.Native.Nat.{_-_, _≤_}
@@ -6,9 +7,9 @@ use lib.ListN.{length, getD}
 use Rattle.model.specs.Strings.{Trits}
 use Rattle.model.specs.Growth.{fold, Entries}
 use Rattle.words.specs.Words.{word}
-use Rattle.lists.specs.Lists.{Holds, stops}
+use Rattle.lists.specs.WorkingLists.{Holds}
 use Rattle.lists.proofs.Holding.{holds-length, within-count}
-use Rattle.lists.proofs.Toward.{Toward, toward-start, toward-step, toward-stop, toward-end}
+use Rattle.lists.proofs.SoFar.{SoFar, Any, so-far-start, so-far-step, so-far-stop, so-far-end}
 use Rattle.procedures.specs.Parts.{append-pieces}
 use borrow.Author.Needs.{needs}
 use Rattle.procedures.proofs.sides.pieces_each.Statement.{statement}
@@ -18,13 +19,13 @@ abbrev Inv-loop : tie.InvT-loop
 Inv-loop list₀ n l taken m v edges en k₀ j₀ list k j =
     (j ≤ m) × (k ≤ 256)
     × ((τ ρ κ : Entries) (t : Trits) → Holds l list₀ n τ → Holds l taken m ρ → Holds l edges en κ → length t ≡ l → v ≡ word t
-    → Toward l (append-pieces κ t) ρ [] (fold (append-pieces κ t) τ ρ) list k j)
+    → SoFar l (append-pieces κ t) ρ (fold (append-pieces κ t) τ ρ) Any list k j)
 
 abbrev μ-loop : tie.MeasureT-loop
 μ-loop list₀ n l taken m v edges en k₀ j₀ list k j = m - j
 
 loop-holds : tie.Need-loop-holds Inv-loop μ-loop
-loop-holds c = (omega arith, omega arith, λ τ ρ κ t h y g e is. toward-start _ (append-pieces κ t) ρ [] _ h refl)
+loop-holds c = (omega arith, omega arith, λ τ ρ κ t h y g e is. so-far-start h refl tt)
 
 mul-pieces : tie.Need-mul-pieces Inv-loop μ-loop
 mul-pieces c = search needs
@@ -48,9 +49,9 @@ returns c = (
       let at-pieces = c .before .before in
       let lp = at-pieces .before .before .before .before .loop in
       let w = lp .inv .2 τ ρ κ t h y g e is in
-      let told = at-pieces .pieces .ensures .1 _ κ (getD ρ (lp .j) []) t (w .held) g
+      let made = at-pieces .pieces .ensures .1 _ κ (getD ρ (lp .j) []) t (w .held) g
       (holds-length y (lp .j) (omega arith)) e (y .here (lp .j) (omega arith)) is in
-      rw (toward-stop _ (append-pieces κ t) ρ [] _ w (omega (arith, y .count)) told (c .enum-told .given .1)) stops,
+      so-far-stop w [] (omega (arith, y .count)) made (c .enum-told .given .1),
 )
 
 add-j : tie.Need-add-j Inv-loop μ-loop
@@ -68,17 +69,16 @@ loop-again c =
       within-count (at-pieces .pieces .ensures .0) got,
       λ τ ρ κ t h y g e is.
           let w = lp .inv .2 τ ρ κ t h y g e is in
-          let told = at-pieces .pieces .ensures .1 _ κ (getD ρ (lp .j) []) t (w .held) g
+          let made = at-pieces .pieces .ensures .1 _ κ (getD ρ (lp .j) []) t (w .held) g
           (holds-length y (lp .j) (omega arith)) e (y .here (lp .j) (omega arith)) is in
-          toward-step _ (append-pieces κ t) ρ [] _ w (omega (arith, y .count)) told got,
+          so-far-step w [] (omega (arith, y .count)) made got (λ _ s. tt),
     )
 
 returns-2 : tie.Need-returns-2 Inv-loop μ-loop
 returns-2 c =
     let lp = c .before .loop in (
       lp .inv .1,
-      λ τ ρ κ t h y g e is.
-          toward-end _ (append-pieces κ t) ρ [] _ (lp .inv .2 τ ρ κ t h y g e is) (omega (arith, y .count)),
+      λ τ ρ κ t h y g e is. so-far-end (lp .inv .2 τ ρ κ t h y g e is) (omega (arith, y .count)),
     )
 
 pub pieces-each-spec : {M : Type 1} → statement M

@@ -1,3 +1,4 @@
+-- Loop (`MatchedSoFar`): of the entries before i those that match v are in `taken`, the others at the front of the list.
 use mathlib.Core.Path.{_≡_, sym, _∙_}
 use mathlib.Core.Logic.{⊎-elim}
 use Prim.Native.Nat.{ℕ, _-_, _≤_}
@@ -6,9 +7,10 @@ use lib.ListN.{length, length-set}
 use Rattle.model.specs.Strings.{Trits}
 use Rattle.model.specs.Growth.{Entries}
 use Rattle.words.specs.Words.{word}
-use Rattle.lists.specs.Lists.{Holds}
+use Rattle.lists.specs.WorkingLists.{Holds}
 use Rattle.lists.proofs.Holding.{holds-length}
-use Rattle.procedures.proofs.Taking.{Taking, taking-start, taking-more, taking-same, taking-taken, taking-left}
+use Rattle.procedures.proofs.MatchedEntries.{MatchedSoFar, matched-start, matched-more, matched-not, matched-taken}
+use Rattle.procedures.proofs.MatchedEntries.{matched-left}
 use borrow.Author.Needs.{needs}
 use Rattle.procedures.proofs.sides.take.Statement.{statement}
 use Rattle.procedures.proofs.sides.take.Tie as tie
@@ -16,13 +18,14 @@ use Rattle.procedures.proofs.sides.take.Tie as tie
 abbrev Inv-loop : tie.InvT-loop
 Inv-loop list₀ n v taken₀ k₀ i₀ list taken k i =
     (i ≤ n) × (k ≤ i) × (length taken ≡ 256)
-    × ((l : ℕ) (τ : Entries) (t : Trits) → Holds l list₀ n τ → length t ≡ l → v ≡ word t → Taking l τ n t list taken k i)
+    × ((l : ℕ) (τ : Entries) (t : Trits) → Holds l list₀ n τ → length t ≡ l → v ≡ word t
+    → MatchedSoFar l τ n t list taken k i)
 
 abbrev μ-loop : tie.MeasureT-loop
 μ-loop list₀ n v taken₀ k₀ i₀ list taken k i = n - i
 
 loop-holds : tie.Need-loop-holds Inv-loop μ-loop
-loop-holds c = (omega arith, omega arith, c .whole2 .given .0, λ l τ t h e is. taking-start t h (c .whole2 .given .0))
+loop-holds c = (omega arith, omega arith, c .whole2 .given .0, λ l τ t h e is. matched-start t h (c .whole2 .given .0))
 
 mul-e : tie.Need-mul-e Inv-loop μ-loop
 mul-e c = search needs
@@ -59,31 +62,20 @@ loop-less c = search needs
 
 loop-again : tie.Need-loop-again Inv-loop μ-loop
 loop-again c =
-    let w = c .before .before .before .before .loop in
-    let test = c .before .matches .ensures .1 in
-    let room = length-set (w .taken) (w .k) _ ∙ w .inv .2 in
-    ⊎-elim
-    (λ g. (
+    let w = c .before .before .before .before .loop in (
       omega arith,
-      omega arith,
-      room,
+      ⊎-elim (λ g. omega (arith, g .1)) (λ g. omega (arith, g .1)) (c .if1 .came),
+      length-set (w .taken) (w .k) _ ∙ w .inv .2,
       λ l τ t h e is.
           let p = w .inv .3 l τ t h e is in
           let long = holds-length h (w .i) (omega arith) in
-          let same = test _ t (long ∙ sym e) (rw long (h .short)) (p .ahead (w .i) (omega arith) (omega arith)) is in
-          rw (g .1) (taking-more p (w .inv .1) (omega arith) (omega arith) long (sym same ∙ g .0 .taken)),
-    ))
-    (λ g. (
-      omega arith,
-      omega arith,
-      room,
-      λ l τ t h e is.
-          let p = w .inv .3 l τ t h e is in
-          let long = holds-length h (w .i) (omega arith) in
-          let same = test _ t (long ∙ sym e) (rw long (h .short)) (p .ahead (w .i) (omega arith) (omega arith)) is in
-          rw (g .1) (taking-same p (w .inv .1) (omega arith) (omega arith) long (sym same ∙ g .0 .left)),
-    ))
-    (c .if1 .came)
+          let here = p .left .ahead (w .i) (omega arith) (omega arith) in
+          let same = sym (c .before .matches .ensures .1 _ t (long ∙ sym e) (rw long (h .short)) here is) in
+          ⊎-elim
+          (λ g. rw (g .1) (matched-more p (w .inv .1) (omega arith) (omega arith) long (same ∙ g .0 .taken)))
+          (λ g. rw (g .1) (matched-not p (w .inv .1) (omega arith) (omega arith) long (same ∙ g .0 .left)))
+          (c .if1 .came),
+    )
 
 returns : tie.Need-returns Inv-loop μ-loop
 returns c =
@@ -91,10 +83,10 @@ returns c =
     let n = c .before .before .before .before .args .n in (
       omega arith,
       (
-        λ l τ t h e is. taking-taken (w .inv .3 l τ t h e is) (w .inv .1) h (omega arith),
+        λ l τ t h e is. matched-taken (w .inv .3 l τ t h e is) (w .inv .1) h (omega arith),
         λ l τ t h e is.
             let all : n ≡ w .i = omega arith in
-            rw all (taking-left (w .inv .3 l τ t h e is) (w .inv .1) h (omega arith)),
+            rw all (matched-left (w .inv .3 l τ t h e is) (w .inv .1) h (omega arith)),
       ),
     )
 

@@ -1,8 +1,9 @@
+-- To take v away is to append the pieces of what matches to what does not (`take-away-matched`, `take-away-none`).
 use mathlib.Core.Path.{_≡_, sym, _∙_}
 use Prim.Native.Nat.{_-_}
 use native.Mathlib.Omega.{arith}
-use Rattle.lists.specs.Lists.{makes}
-use Rattle.procedures.proofs.Taking.{take-away-matched, take-away-none}
+use Rattle.lists.specs.WorkingLists.{makes}
+use Rattle.procedures.proofs.MatchedEntries.{take-away-matched, take-away-none}
 use borrow.Author.Needs.{needs}
 use Rattle.procedures.proofs.sides.take_away.Statement.{statement}
 use Rattle.procedures.proofs.sides.take_away.Tie as tie
@@ -14,11 +15,11 @@ returns : tie.Need-returns
 returns c = (
   omega arith,
   λ τ t h e is σ k.
-      let took = c .before .take .ensures .1 in
+      let taken = c .before .take .ensures .1 in
       let none = c .if1 .taken in
       let n = c .before .before .before .before .args .n in
       let all : n - c .before .take .result ≡ n = omega arith in
-      rw (take-away-none k t (sym (took .0 _ τ t h e is .count) ∙ none)) (makes (rw all at (took .1 _ τ t h e is))),
+      rw (take-away-none k t (sym (taken .0 _ τ t h e is .count) ∙ none)) (makes (rw all at (taken .1 _ τ t h e is))),
 )
 
 sub-kept : tie.Need-sub-kept
@@ -34,13 +35,13 @@ returns-2 : tie.Need-returns-2
 returns-2 c =
     let at-edges = c .before .before .before .before in
     let at-take = at-edges .before .before .before .before in
-    let took = at-take .take .ensures .1 in
+    let taken = at-take .take .ensures .1 in
     let p = c .pieces-each .ensures in (
       p .0,
       λ τ t h e is σ k.
-          let left = took .1 _ τ t h e is in
+          let left = taken .1 _ τ t h e is in
           rw (take-away-matched k t)
-          (p .1 _ _ _ t left (took .0 _ τ t h e is) (at-edges .edge-row .ensures .1 _ _ t left e is) e is),
+          (p .1 _ _ _ t left (taken .0 _ τ t h e is) (at-edges .edge-row .ensures .1 _ _ t left e is) e is),
     )
 
 pub take-away-spec : {M : Type 1} → statement M

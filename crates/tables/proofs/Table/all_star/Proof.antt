@@ -1,3 +1,4 @@
+-- The table of the one all-star entry has only zero words (`star-table`).
 use Rattle.tables.specs.Values.{of-width}
 use Rattle.tables.proofs.Values.{star-table}
 use borrow.Author.Needs.{needs}

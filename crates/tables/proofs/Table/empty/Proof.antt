@@ -1,3 +1,4 @@
+-- The table of no entry has only zero words (`empty-table`).
 use Rattle.tables.specs.Values.{of-width}
 use Rattle.tables.proofs.Values.{empty-table}
 use borrow.Author.Needs.{needs}

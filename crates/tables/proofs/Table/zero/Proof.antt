@@ -1,3 +1,4 @@
+-- By definition.
 use mathlib.Core.Path.{refl}
 use Rattle.tables.specs.Values.{zero-table}
 use Rattle.tables.proofs.Table.zero.Statement.{statement}

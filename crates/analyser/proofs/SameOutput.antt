@@ -1,0 +1,16 @@
+-- Equal answers have equal numbers and outputs, equal replies equal numbers and words. Assumes nothing.
+use mathlib.Core.Path.{_≡_, ap, _∙_}
+use mathlib.Core.List.{List}
+use Prim.Native.Nat.{ℕ}
+use Rattle.tables.specs.declared.Answered.{Answered}
+use Rattle.questions.specs.declared.Reply.{Reply}
+use Rattle.questions.specs.Replies.{reply-number, reply-word}
+use Rattle.byte_calls.specs.Outputs.{output-number, output-bytes}
+
+pub output-same : (out : List ℕ) {a a′ : Answered} {r : ℕ} {out′ : List ℕ} → a ≡ a′ → r ≡ output-number a out
+    → out′ ≡ output-bytes a out → (r ≡ output-number a′ out) × (out′ ≡ output-bytes a′ out)
+output-same out e n b = (n ∙ ap (λ (x : Answered). output-number x out) e, b ∙ ap (λ (x : Answered). output-bytes x out) e)
+
+pub reply-same : (word : ℕ) {a a′ : Reply} {r word′ : ℕ} → a ≡ a′ → r ≡ reply-number a → word′ ≡ reply-word a word
+    → (r ≡ reply-number a′) × (word′ ≡ reply-word a′ word)
+reply-same word e n w = (n ∙ ap reply-number e, w ∙ ap (λ (x : Reply). reply-word x word) e)

@@ -1,0 +1,68 @@
+-- The two-buffer call: one law for each way that it ends. Assumes nothing.
+use mathlib.Core.Path.{_≡_, refl, sym, ap, ap₂, _∙_}
+use mathlib.Core.Bool.{true, false, cond}
+use mathlib.Core.List.{List}
+use Prim.Native.Nat.{ℕ, _≤_, _<_}
+use borrow.Author.Tests.{leb-true, eq-eqb, ne-eqb, lt-ltb, le-ltb}
+use lib.Dec.{ltb, eqb}
+use lib.ListN.{length}
+use Rattle.tables.specs.declared.Refusal.{Refusal}
+use Rattle.tables.specs.declared.Answer.the-variants.{Accepted, Refused}
+use Rattle.tables.specs.declared.Answered.{Answered}
+use Rattle.tables.specs.Refusals.{if-accepted}
+use Rattle.tables.specs.Values.{accepts}
+use Rattle.forms.specs.declared.Extent.the-variants.{Front}
+use Rattle.forms.specs.TableForms.{sized, second-size, table-length, fits, read-table}
+use Rattle.forms.proofs.Tests.{reads-passed}
+use Rattle.byte_calls.specs.BufferParts.{Part, front, form, smaller-part}
+
+-- what a form that reads at the front of a buffer has
+pub front-room : (b : List ℕ) {a : Answered} → a ≡ read-table Front b → a .answer ≡ Accepted
+    → (4 ≤ length b) × (table-length (second-size b) ≤ length b)
+unfolding sized fits
+front-room b {a} read e =
+    let is : a ≡ accepts (a .table) = λ i. record { answer = e i; table = a .table } in
+    let p = reads-passed Front b (accepts (a .table)) refl (sym read ∙ is) .0 in
+    (leb-true 4 (length b) (p .sizes), leb-true (table-length (second-size b)) (length b) (p .long))
+
+module _ (p q : Part) {a b : Answered} (ea : a ≡ read-table Front (p .bytes)) (eb : b ≡ read-table Front (q .bytes)) where
+  -- the part, from what was read
+  as-read : if-accepted (a .answer) (λ r. front 0 p) (if-accepted (b .answer) (λ r. front 0 p)
+      (cond (eqb (a .table .l) (b .table .l))
+      (cond (ltb (second-size (q .bytes)) (second-size (p .bytes))) (form q) (form p)) (front 0 p)))
+      ≡ smaller-part p q
+  unfolding smaller-part
+  as-read =
+      ap₂ {C = Part} (λ (x y : Answered). if-accepted (x .answer) (λ r. front 0 p) (if-accepted (y .answer) (λ r. front 0 p)
+      (cond (eqb (x .table .l) (y .table .l))
+      (cond (ltb (second-size (q .bytes)) (second-size (p .bytes))) (form q) (form p)) (front 0 p)))) ea eb
+
+  pub first-unread : {r : Refusal} → a .answer ≡ Refused r → front 0 p ≡ smaller-part p q
+  unfolding if-accepted
+  first-unread e = let g = as-read in rw e at g
+
+  module _ (good : a .answer ≡ Accepted) where
+    pub second-unread : {r : Refusal} → b .answer ≡ Refused r → front 0 p ≡ smaller-part p q
+    unfolding if-accepted
+    second-unread e = let g = as-read in rw (good, e) at g
+
+    module _ (too : b .answer ≡ Accepted) where
+      pub unlike : ¬ (a .table .l ≡ b .table .l) → front 0 p ≡ smaller-part p q
+      unfolding if-accepted
+      unlike f = let g = as-read in rw (good, too, ne-eqb (a .table .l) (b .table .l) f) at g
+
+      module _ (same : a .table .l ≡ b .table .l) {m n : ℕ} (em : m ≡ second-size (p .bytes))
+          (en : n ≡ second-size (q .bytes)) where
+        pub fewer-negative : n < m → front (table-length n) q ≡ smaller-part p q
+        unfolding if-accepted
+        fewer-negative lt =
+            let less : ltb (second-size (q .bytes)) (second-size (p .bytes)) ≡ true = rw (← em, ← en) (lt-ltb n m lt) in
+            let g = as-read in
+            ap (λ (k : ℕ). front (table-length k) q) en ∙ rw (good, too, eq-eqb (a .table .l) (b .table .l) same, less) at g
+
+        pub fewer-positive : m ≤ n → front (table-length m) p ≡ smaller-part p q
+        unfolding if-accepted
+        fewer-positive le =
+            let less : ltb (second-size (q .bytes)) (second-size (p .bytes)) ≡ false = rw (← em, ← en) (le-ltb n m le) in
+            let g = as-read in
+            ap (λ (k : ℕ). front (table-length k) p) em ∙ rw (good, too, eq-eqb (a .table .l) (b .table .l) same, less) at g

@@ -1,0 +1,61 @@
+// How the table or the reply of a call on byte buffers is handed back, and the two-buffer call. Inner: not a public call.
+use forms::Extent;
+use questions::Reply;
+use tables::Answer;
+use tables::Answered;
+ghost use mathlib.Core.Path.{_≡_};
+ghost use Rattle.questions.specs.Replies.{reply-number, reply-word};
+ghost use Rattle.byte_calls.specs.Outputs.{output-number, output-bytes};
+ghost use Rattle.byte_calls.specs.BufferParts.{lent, smaller-part};
+
+// Writes the table of an accepted call: 9 where the output is too short. The number of the answer.
+pub fn write(a: Answered, out: &mut [u8]) -> u32
+    ensures number { λ r. ⌜ r ≡ output-number a (now (out .entry)) ⌝ }
+    ensures bytes { λ r. ⌜ now (out .exit) ≡ output-bytes a (now (out .entry)) ⌝ }
+{
+    let answer = a.answer;
+    let t = a.table;
+    match answer {
+        Answer::Refused(r) => tables::refusal_number(r),
+        Answer::Accepted => tables::answer_number(forms::write_table(t, out)),
+    }
+}
+
+// Writes 1 for yes and 0 for no; nothing where the question is refused. The number of the answer.
+pub fn reply(r: Reply, word: &mut u32) -> u32
+    ensures number { λ k. ⌜ k ≡ reply-number r ⌝ }
+    ensures word { λ k. ⌜ now (word .exit) ≡ reply-word r (now (word .entry)) ⌝ }
+{
+    *word = questions::reply_word(r, *word);
+    questions::reply_number(r)
+}
+
+// Of a positive and a negative form at the front of two buffers the one with fewer entries, as the part of the buffer that holds
+// it.
+pub fn smaller<'a>(p: &'a [u8], q: &'a [u8]) -> &'a [u8]
+    ensures { λ r. ⌜ lent r ≡ smaller-part (lent (p .entry)) (lent (q .entry)) ⌝ }
+{
+    let a = forms::read_table(Extent::Front, p);
+    let b = forms::read_table(Extent::Front, q);
+    let first = a.answer;
+    let second = b.answer;
+    let t = a.table;
+    let u = b.table;
+    match first {
+        Answer::Refused(r) => &p[..0],
+        Answer::Accepted => match second {
+            Answer::Refused(r) => &p[..0],
+            Answer::Accepted => {
+                if t.l != u.l {
+                    return &p[..0];
+                }
+                let m = codec::number_at(p, 2) as usize;
+                let n = codec::number_at(q, 2) as usize;
+                if n < m {
+                    return &q[..4 + 4 * n];
+                }
+                &p[..4 + 4 * m]
+            }
+        },
+    }
+}

@@ -1,0 +1,191 @@
+-- What is written reads back: the table where it is reduced, and its groups in any case. Assumes nothing.
+use mathlib.Core.Path.{_≡_, refl, sym, ap, ap₂, _∙_, subst}
+use mathlib.Core.Bool.{Bool, true}
+use mathlib.Core.List.{List, [], _∷_, _++_, map, append-nil}
+use Prim.Native.Nat.{ℕ, zero, suc, _+_, _*_, _^_, _≤_, _<_}
+use native.Mathlib.Omega.{arith}
+use borrow.Author.Tests.{lt-ltb, le-leb, eq-eqb}
+use lib.Bits.{bitAnd}
+use lib.ListN.{length, getD, take, drop, length-append, length-map}
+use lib.Pow.{pow-mono}
+use lib.Seq.{length-take-le, getD-take, drop-drop, drop-at}
+use Rattle.model.specs.Growth.{Entries, limit, Reduced}
+use Rattle.model.specs.Strings.{Trits}
+use Rattle.model.specs.Tables.{Side, groups}
+use Rattle.model.specs.Questions.{Equal}
+use Rattle.model.proofs.Shape.{regrown}
+use Rattle.words.specs.declared.Entry.{Entry}
+use Rattle.words.specs.Words.{entry, care-of, value-of, string}
+use Rattle.words.proofs.Codec.{care-lt, value-lt, value-in}
+use Rattle.tables.specs.declared.Table.{Table}
+use Rattle.tables.specs.declared.Answer.the-variants.{Accepted}
+use Rattle.tables.specs.Lists.{padded, list-words, Stores, pairs, strings}
+use Rattle.tables.specs.Refusals.{if-accepted}
+use Rattle.tables.specs.Values.{table-of, entries-of, accepts, made-or-full, clean, entry-at, all-from, all-clean, GoodTable}
+use Rattle.tables.proofs.Arrays.{stores-at, stores-length}
+use Rattle.tables.proofs.Checking.{good-holds, width-most}
+use Rattle.codec.specs.Numbers.{numbers, bytes}
+use Rattle.codec.proofs.Laws.{length-bytes, bytes-append, Narrow, number-pair, numbers-bytes}
+use Rattle.forms.specs.declared.Extent.the-variants.{Whole, Front}
+use Rattle.forms.specs.TableForms.{sized, first-size, second-size, table-length, fits, cares, values, written-entries}
+use Rattle.forms.specs.TableForms.{read-table, table-form, written}
+use Rattle.forms.specs.TableForms.{Passed}
+use Rattle.forms.proofs.Tests.{entries-in, passed-reads}
+use Rattle.forms.proofs.Reading.{entries-grow, read-groups}
+use Rattle.forms.proofs.Cutting.{table-followed}
+
+-- ---- Rows of words
+
+narrow-take : (n : ℕ) (ws : List ℕ) → ((i : ℕ) → i < n → getD ws i 0 < 65536) → Narrow (take n ws)
+narrow-take zero ws f = tt
+narrow-take (suc n) [] f = tt
+narrow-take (suc n) (w ∷ ws) f = (f 0 (omega arith), narrow-take n ws (λ i lt. f (suc i) (omega arith)))
+
+numbers-back : (n : ℕ) (ws rest : List ℕ) → length ws ≡ n → Narrow ws → numbers n (bytes ws ++ rest) ≡ ws
+numbers-back n ws rest e h = rw (← e) (numbers-bytes ws rest h)
+
+-- the second of two rows
+numbers-second : (n : ℕ) (us ws : List ℕ) → length us ≡ n → length ws ≡ n → Narrow ws
+    → numbers n (drop (2 * n) (bytes us ++ bytes ws)) ≡ ws
+numbers-second n us ws e f h =
+    ap (numbers n) (drop-at (bytes us) (bytes ws) (2 * n) (omega (arith, e, length-bytes us)) ∙ sym (append-nil (bytes ws)))
+    ∙ numbers-back n ws [] f h
+
+pairs-take : (n : ℕ) (cs vs : List ℕ) → take n (pairs (take n cs) (take n vs)) ≡ take n (pairs cs vs)
+unfolding pairs
+pairs-take zero cs vs = refl
+pairs-take (suc n) [] vs = refl
+pairs-take (suc n) (c ∷ cs) [] = refl
+pairs-take (suc n) (c ∷ cs) (v ∷ vs) = ap (λ (r : List Entry). record { care = c; value = v } ∷ r) (pairs-take n cs vs)
+
+all-up : (p : ℕ → Bool) (i n : ℕ) → ((m : ℕ) → m < i + n → p m ≡ true) → all-from i n p ≡ true
+unfolding all-from
+all-up p i zero f = refl
+all-up p i (suc n) f = rw (f i (omega arith)) (all-up p (suc i) n (λ m lt. f m (omega arith)))
+
+clean-word : (l : ℕ) (s : Trits) → length s ≡ l → clean l (entry s) ≡ true
+unfolding clean
+clean-word l s e =
+    rw (
+      ← e,
+      lt-ltb (care-of s) (2 ^ length s) (care-lt s),
+      eq-eqb (bitAnd (value-of s) (care-of s)) (value-of s)
+          (value-in s),
+    )
+
+-- ---- The words of a good table value
+
+module _ {l : ℕ} {care value : List ℕ} {n : ℕ} {τ : Entries} (h : Stores l care value n τ) where
+  -- the first n words of the arrays
+  rows-long : (length (take n care) ≡ n) × (length (take n value) ≡ n)
+  unfolding list-words padded
+  rows-long =
+      let ws = list-words τ in
+      let room : n ≤ length ws = rw (length-append, length-map τ entry) (omega (arith, h .count)) in
+      let cs : n ≤ length care = rw (h .arrays .cares, length-map ws) room in
+      let vs : n ≤ length value = rw (h .arrays .values, length-map ws) room in
+      (length-take-le n care cs, length-take-le n value vs)
+
+  rows-narrow : l ≤ 16 → Narrow (take n care) × Narrow (take n value)
+  rows-narrow most = (
+    narrow-take n care (λ i lt. omega (arith, below i lt, care-lt (at i), ap (λ (e : Entry). e .care) (stores-at h i lt))),
+    narrow-take n value
+        (λ i lt. omega (arith, below i lt, value-lt (at i), ap (λ (e : Entry). e .value) (stores-at h i lt))),
+  )
+    where
+      at : ℕ → Trits
+      at i = getD τ i []
+
+      below : (i : ℕ) → i < n → 2 ^ length (at i) ≤ 2 ^ 16
+      below i lt = pow-mono {j = 16} (omega (arith, stores-length h i lt))
+
+  rows-clean : all-clean l n (take n care) (take n value) ≡ true
+  unfolding all-clean
+  rows-clean =
+      all-up (λ i. clean l (entry-at (take n care) (take n value) i)) 0 n
+      (λ i lt.
+      let here : i < n = omega arith in
+      rw (getD-take n care i 0 here, getD-take n value i 0 here, stores-at h i here)
+      (clean-word l (getD τ i []) (stores-length h i here)))
+
+  rows-strings : strings l (take n care) (take n value) n ≡ strings l care value n
+  unfolding strings
+  rows-strings = ap (map (string l)) (pairs-take n care value)
+
+-- ---- The form of a good table value
+
+-- The form of a good table has the length that its count gives.
+pub form-length : (t : Table) → GoodTable t → length (table-form t) ≡ table-length (t .n)
+unfolding table-form
+form-length t g =
+    let long = rows-long (good-holds g) in
+    let cs = take (t .n) (t .care) in
+    let vs = take (t .n) (t .value) in
+    omega (arith, length-bytes (t .l ∷ t .n ∷ (cs ++ vs)), length-append cs vs, long .0, long .1)
+
+-- what is read from it
+module _ (t : Table) (g : GoodTable t) where
+  form-width : first-size (table-form t) ≡ t .l
+  unfolding table-form bytes
+  form-width = number-pair (t .l) (omega (arith, width-most (t .l) (g .width)))
+
+  form-count : second-size (table-form t) ≡ t .n
+  unfolding table-form bytes
+  form-count = number-pair (t .n) (omega (arith, good-holds g .count, g .list .few))
+
+  form-words : drop 4 (table-form t) ≡ bytes (take (t .n) (t .care)) ++ bytes (take (t .n) (t .value))
+  unfolding table-form bytes
+  form-words = bytes-append (take (t .n) (t .care)) (take (t .n) (t .value))
+
+  form-cares : cares (t .n) (table-form t) ≡ take (t .n) (t .care)
+  form-cares =
+      let h = good-holds g in
+      ap (numbers (t .n)) form-words
+      ∙ numbers-back (t .n) _ _ (rows-long h .0) (rows-narrow h (width-most (t .l) (g .width)) .0)
+
+  form-values : values (t .n) (table-form t) ≡ take (t .n) (t .value)
+  form-values =
+      let h = good-holds g in
+      ap (numbers (t .n)) (sym (drop-drop (2 * t .n) 4 (table-form t)) ∙ ap (drop (2 * t .n)) form-words)
+      ∙ numbers-second (t .n) _ _ (rows-long h .0) (rows-long h .1) (rows-narrow h (width-most (t .l) (g .width)) .1)
+
+  form-entries : entries-in (table-form t) ≡ entries-of t
+  unfolding entries-of written-entries
+  form-entries = rw (form-width, form-count, form-cares, form-values) (rows-strings (good-holds g))
+
+  form-passed : Passed Whole (table-form t)
+  unfolding sized fits
+  form-passed = record {
+    sizes = le-leb 4 (length (table-form t)) (omega (arith, form-length t g));
+    width = rw form-width (g .width);
+    few = rw form-count (le-leb (t .n) limit (omega (arith, good-holds g .count, g .list .few)));
+    long = rw form-count (eq-eqb (table-length (t .n)) (length (table-form t)) (sym (form-length t g)));
+    clean = rw (form-width, form-count, form-cares, form-values) (rows-clean (good-holds g));
+  }
+
+-- What is written reads back as a table of the same groups, on either side.
+pub written-groups : (t : Table) → GoodTable t
+    → (u : Table) × (read-table Whole (table-form t) ≡ accepts u)
+    × ((side : Side) → Equal (groups side (u .l) (entries-of u)) (groups side (t .l) (entries-of t)))
+written-groups t g =
+    let p = form-passed t g in
+    let m = entries-grow p in
+    let e = passed-reads Whole (table-form t) p ∙ m .2 in (
+      table-of _ (m .0),
+      e,
+      λ side. subst (Equal _) (ap₂ (groups side) (form-width t g) (form-entries t g))
+          (read-groups Whole side (table-form t) _ e),
+    )
+
+-- A reduced table reads back as it was written.
+pub written-reads : (t : Table) → GoodTable t → Reduced (entries-of t) → read-table Whole (table-form t) ≡ accepts t
+unfolding made-or-full
+written-reads t g r =
+    passed-reads Whole (table-form t) (form-passed t g)
+    ∙ rw (form-entries t g, form-width t g, regrown (entries-of t) r (g .list .few)) (ap accepts (sym (g .same)))
+
+-- It reads back too at the front of the bytes that it was written into.
+pub written-front : (t : Table) (out : List ℕ) → GoodTable t → Reduced (entries-of t)
+    → read-table Front (written Accepted (table-form t) out) ≡ accepts t
+unfolding written if-accepted
+written-front t out g r = table-followed (table-form t) t (written-reads t g r) (drop (length (table-form t)) out)

@@ -1,0 +1,115 @@
+-- Each test that fails gives its refusal; where all are passed the sizes are good, and the equations are checked one by one.
+use mathlib.Core.Path.{sym, _∙_}
+use native.Mathlib.Omega.{arith}
+use borrow.Author.Tests.{not-true, not-false, leb-true}
+use borrow.Author.Needs.{needs}
+use Rattle.tables.proofs.Tests.{both-true}
+use Rattle.forms.proofs.Outcomes.{equations-unsized, equations-long, equations-torn, equations-sum}
+use Rattle.forms.proofs.Outcomes.{sizes-good, equations-each}
+use Rattle.forms.proofs.equations.check.Statement.{statement}
+use Rattle.forms.proofs.equations.check.Tie as tie
+
+returns : tie.Need-returns
+returns c = equations-unsized (c .before .before .args .l) (c .before .before .args .b .now) (c .if1 .taken)
+
+number-at-requires : tie.Need-number-at-requires
+number-at-requires c κs = search needs
+
+cast-e : tie.Need-cast-e
+cast-e c = search needs
+
+number-at-requires-2 : tie.Need-number-at-requires-2
+number-at-requires-2 c κs = search needs
+
+cast-m : tie.Need-cast-m
+cast-m c = search needs
+
+returns-2 : tie.Need-returns-2
+returns-2 c =
+    let at-number-at2 = c .before in
+    let at-number-at = at-number-at2 .before in
+    let at-if1 = at-number-at .before in
+    let at-start = at-if1 .before .before in
+    equations-long (at-start .args .l) (at-start .args .b .now) _ _ (at-number-at .number-at .ensures)
+    (at-number-at2 .number-at2 .ensures) (at-if1 .if1 .left) (not-true _ (c .if2 .taken))
+
+mul-if3 : tie.Need-mul-if3
+mul-if3 c = search needs
+
+add-if3 : tie.Need-add-if3
+add-if3 c = search needs
+
+mul-if3-2 : tie.Need-mul-if3-2
+mul-if3-2 c = search needs
+
+add-if3-2 : tie.Need-add-if3-2
+add-if3-2 c = search needs
+
+returns-3 : tie.Need-returns-3
+returns-3 c =
+    let at-if2 = c .before in
+    let at-number-at2 = at-if2 .before in
+    let at-number-at = at-number-at2 .before in
+    let at-if1 = at-number-at .before in
+    let at-start = at-if1 .before .before in
+    equations-torn (at-start .args .l) (at-start .args .b .now) _ _ (at-number-at .number-at .ensures)
+    (at-number-at2 .number-at2 .ensures) (at-if1 .if1 .left) (not-false _ (at-if2 .if2 .left)) (c .if3 .taken)
+
+mul-sum-at : tie.Need-mul-sum-at
+mul-sum-at c = search needs
+
+add-sum-at : tie.Need-add-sum-at
+add-sum-at c = search needs
+
+sum-at-requires : tie.Need-sum-at-requires
+sum-at-requires c κs =
+    let at-if2 = c .before in
+    let few = both-true _ _ (not-false _ (at-if2 .if2 .left)) in (leb-true _ 64 (few .0), omega (arith, c .if3 .left))
+
+returns-4 : tie.Need-returns-4
+returns-4 c =
+    let at-sum-at = c .before in
+    let at-if3 = at-sum-at .before in
+    let at-if2 = at-if3 .before in
+    let at-number-at2 = at-if2 .before in
+    let at-number-at = at-number-at2 .before in
+    let at-if1 = at-number-at .before in
+    let at-start = at-if1 .before .before in
+    equations-sum (at-start .args .l) (at-start .args .b .now) _ _ (at-number-at .number-at .ensures)
+    (at-number-at2 .number-at2 .ensures) (at-if1 .if1 .left) (not-false _ (at-if2 .if2 .left)) (at-if3 .if3 .left)
+    (λ q. c .if4 .taken (at-sum-at .sum-at .ensures ∙ q))
+
+check-each-requires : tie.Need-check-each-requires
+check-each-requires c κs =
+    let at-sum-at = c .before in
+    let at-if3 = at-sum-at .before in
+    let at-if2 = at-if3 .before in
+    let at-number-at2 = at-if2 .before in
+    let at-number-at = at-number-at2 .before in
+    let at-if1 = at-number-at .before in
+    let at-start = at-if1 .before .before in (
+      at-start .pre,
+      sizes-good (at-start .args .l) (at-start .args .b .now) _ _ (at-number-at .number-at .ensures)
+          (at-number-at2 .number-at2 .ensures) (at-if1 .if1 .left) (not-false _ (at-if2 .if2 .left)) (at-if3 .if3 .left)
+          (sym (at-sum-at .sum-at .ensures) ∙ c .if4 .left),
+    )
+
+returns-5 : tie.Need-returns-5
+returns-5 c =
+    let at-if4 = c .before in
+    let at-sum-at = at-if4 .before in
+    let at-if3 = at-sum-at .before in
+    let at-if2 = at-if3 .before in
+    let at-number-at2 = at-if2 .before in
+    let at-number-at = at-number-at2 .before in
+    let at-if1 = at-number-at .before in
+    let at-start = at-if1 .before .before in
+    c .check-each .ensures
+    ∙ equations-each (at-start .args .l) (sizes-good (at-start .args .l) (at-start .args .b .now) _ _
+    (at-number-at .number-at .ensures) (at-number-at2 .number-at2 .ensures) (at-if1 .if1 .left)
+    (not-false _ (at-if2 .if2 .left)) (at-if3 .if3 .left) (sym (at-sum-at .sum-at .ensures) ∙ at-if4 .if4 .left))
+
+pub check-spec : {M : Type 1} → statement M
+check-spec = tie.close
+    (tie.spec returns number-at-requires cast-e number-at-requires-2 cast-m returns-2 mul-if3 add-if3 mul-if3-2 add-if3-2
+    returns-3 mul-sum-at add-sum-at sum-at-requires returns-4 check-each-requires returns-5)

@@ -1,0 +1,4 @@
+pub mod Checked
+pub mod Demand2
+pub mod Exclusive
+pub mod ZeroPast

@@ -1,0 +1,245 @@
+// The operations on table values, of both sides: conversion, equation, join, projection and change of side.
+// A refusal returns the table as given; of two tables, the first.
+use lists::Grown;
+use tables::Answer;
+use tables::Answered;
+use tables::Refusal;
+use tables::Table;
+use terms::Checked;
+ghost use mathlib.Core.Path.{_≡_};
+ghost use Prim.Native.Nat.{_≤_};
+ghost use lib.ListN.{length};
+ghost use Rattle.model.specs.Groups.{Bits};
+ghost use Rattle.model.specs.Growth.{Entries, limit};
+ghost use Rattle.model.specs.Tables.{equation-of-sets, join as join-lists, kept, projection};
+ghost use Rattle.words.specs.Words.{set-word};
+ghost use Rattle.lists.specs.WorkingLists.{Holds, Within, Makes};
+ghost use Rattle.tables.specs.Values.{refuses, made-or-full, GoodTable, entries-of};
+ghost use Rattle.procedures.specs.Parts.{OfSets};
+ghost use Rattle.operations.specs.Operations.{side-of, side-numbered, convert-call, equation-call, join-call};
+ghost use Rattle.operations.specs.Operations.{projection-call, change-side-call};
+
+// A table is positive or negative.
+pub enum Side {
+    Positive,
+    Negative,
+}
+
+// The side that a number stands for: 0 is positive, any other number negative.
+pub fn side_numbered(number: u32) -> Side
+    ensures { λ r. ⌜ side-of r ≡ side-numbered number ⌝ }
+{
+    if number == 0 {
+        return Side::Positive;
+    }
+    Side::Negative
+}
+
+// A refusal, with the table that is returned. Inner: not a public call.
+pub fn refused(r: Refusal, t: Table) -> Answered
+    ensures { λ a. ⌜ a ≡ refuses r t ⌝ }
+{
+    Answered {
+        answer: Answer::Refused(r),
+        table: t,
+    }
+}
+
+// Convert groups, given as l and a row of words, bit i - 1 for Xi.
+pub fn convert(l: u32, words: &[u32]) -> Answered
+    ensures { λ r. ⌜ r ≡ convert-call l (now (words .entry)) ⌝ }
+{
+    if !tables::good_width(l) {
+        return tables::refused(Refusal::Width);
+    }
+    if !lists::conversion::all_below(l, words) {
+        return tables::refused(Refusal::Stray);
+    }
+    let mut list = [0u64; 256];
+    let g = lists::conversion::convert(&mut list, l, words);
+    lists::values::made_or_full(l, Table::zero(), g, &list)
+}
+
+// The entries after an equation, for x alone in mx and t's variables in mt.
+fn equation_list(
+    side: Side,
+    t: &[u64; 256],
+    tn: usize,
+    l: u32,
+    mx: u32,
+    mt: u32,
+    list: &mut [u64; 256],
+) -> Grown
+    requires { ⌜ (tn ≤ limit) × (l ≤ 32) ⌝ }
+    ensures within { λ r. ⌜ Within r ⌝ }
+    ensures made { λ r. ⌜
+        OfSets l (now (t .entry)) tn mx mt (λ τ x t.
+        Makes l (now (list .exit)) r (equation-of-sets (side-of side) l x t τ))
+        ⌝ }
+{
+    match side {
+        Side::Positive => procedures::equations::positive(t, tn, l, mx, mt, list),
+        Side::Negative => procedures::equations::negative(t, tn, l, mx, mt, list),
+    }
+}
+
+// The equation on a checked table, for x alone in mx and t's variables in mt.
+fn equation_sets_checked(side: Side, t: Table, mx: u32, mt: u32) -> Answered
+    requires { ⌜ GoodTable t ⌝ }
+    ensures { λ r. ⌜
+        ((x y : Bits) → length x ≡ t .l → length y ≡ t .l → mx ≡ set-word x → mt ≡ set-word y
+        → r ≡ made-or-full (t .l) t (equation-of-sets (side-of side) (t .l) x y (entries-of t)))
+        ⌝ }
+{
+    let l = t.l;
+    let n = t.n;
+    let mut given = [0u64; 256];
+    lists::values::load(&t.care, &t.value, n, &mut given);
+    let mut list = [0u64; 256];
+    let g = equation_list(side, &given, n, l, mx, mt, &mut list);
+    lists::values::made_or_full(l, t, g, &list)
+}
+
+// The equation Xx = the term of the tokens, on a checked table. Inner: not a public call.
+pub fn equation_checked(side: Side, t: Table, x: u32, ts: &[u16]) -> Answered
+    requires { ⌜ GoodTable t ⌝ }
+    ensures { λ r. ⌜ r ≡ equation-call (side-of side) t x (now (ts .entry)) ⌝ }
+{
+    let l = t.l;
+    match terms::check_equation(l, x, ts) {
+        Checked::Refused(r) => refused(r, t),
+        Checked::Variables(m) => equation_sets_checked(side, t, 1u32 << (x - 1), m),
+    }
+}
+
+// The equation Xx = the term of the tokens.
+pub fn equation(side: Side, t: Table, x: u32, ts: &[u16]) -> Answered
+    ensures { λ r. ⌜ r ≡ equation-call (side-of side) t x (now (ts .entry)) ⌝ }
+{
+    match tables::check(t) {
+        Answer::Refused(r) => refused(r, t),
+        Answer::Accepted => equation_checked(side, t, x, ts),
+    }
+}
+
+// The entries of the join of two lists.
+fn join_list(
+    side: Side,
+    a: &[u64; 256],
+    an: usize,
+    b: &[u64; 256],
+    bn: usize,
+    l: u32,
+    list: &mut [u64; 256],
+) -> Grown
+    requires { ⌜ (an ≤ limit) × (bn ≤ limit) × (l ≤ 32) ⌝ }
+    ensures within { λ r. ⌜ Within r ⌝ }
+    ensures made { λ r. ⌜
+        ((α β : Entries) → Holds l (now (a .entry)) an α → Holds l (now (b .entry)) bn β
+        → Makes l (now (list .exit)) r (join-lists (side-of side) α β))
+        ⌝ }
+{
+    match side {
+        Side::Positive => procedures::projections::join_positive(a, an, b, bn, l, list),
+        Side::Negative => procedures::projections::join_negative(a, an, b, bn, l, list),
+    }
+}
+
+// The join of two checked tables of one width.
+fn join_checked(side: Side, t: Table, u: Table) -> Answered
+    requires { ⌜ GoodTable t × GoodTable u × (u .l ≡ t .l) ⌝ }
+    ensures { λ r. ⌜
+        r ≡ made-or-full (t .l) t (join-lists (side-of side) (entries-of t) (entries-of u))
+        ⌝ }
+{
+    let l = t.l;
+    let an = t.n;
+    let bn = u.n;
+    let mut a = [0u64; 256];
+    lists::values::load(&t.care, &t.value, an, &mut a);
+    let mut b = [0u64; 256];
+    lists::values::load(&u.care, &u.value, bn, &mut b);
+    let mut list = [0u64; 256];
+    let g = join_list(side, &a, an, &b, bn, l, &mut list);
+    lists::values::made_or_full(l, t, g, &list)
+}
+
+// The join of two tables of one side.
+pub fn join(side: Side, t: Table, u: Table) -> Answered
+    ensures { λ r. ⌜ r ≡ join-call (side-of side) t u ⌝ }
+{
+    match tables::check(t) {
+        Answer::Refused(r) => refused(r, t),
+        Answer::Accepted => match tables::check(u) {
+            Answer::Refused(r) => refused(r, t),
+            Answer::Accepted => {
+                if t.l == u.l {
+                    join_checked(side, t, u)
+                } else {
+                    refused(Refusal::Unlike, t)
+                }
+            }
+        },
+    }
+}
+
+// The entries of the projection of a list onto the set keep.
+fn projection_list(
+    side: Side,
+    t: &[u64; 256],
+    tn: usize,
+    l: u32,
+    keep: u32,
+    list: &mut [u64; 256],
+) -> Grown
+    requires { ⌜ (tn ≤ limit) × (l ≤ 32) ⌝ }
+    ensures within { λ r. ⌜ Within r ⌝ }
+    ensures made { λ r. ⌜
+        ((k : Bits) (τ : Entries) → Holds l (now (t .entry)) tn τ → length k ≡ l → keep ≡ set-word k
+        → Makes (kept k) (now (list .exit)) r (projection (side-of side) l k τ))
+        ⌝ }
+{
+    match side {
+        Side::Positive => procedures::projections::positive(t, tn, keep, list),
+        Side::Negative => procedures::projections::negative(t, tn, l, keep, list),
+    }
+}
+
+// The projection of a table onto the variables of the set keep, bit i - 1 for Xi.
+pub fn project(side: Side, t: Table, keep: u32) -> Answered
+    ensures { λ r. ⌜ r ≡ projection-call (side-of side) t keep ⌝ }
+{
+    match tables::check(t) {
+        Answer::Refused(r) => refused(r, t),
+        Answer::Accepted => {
+            let l = t.l;
+            if !((0 < keep) & (keep <= words::full(l))) {
+                return refused(Refusal::Keep, t);
+            }
+            let n = t.n;
+            let mut given = [0u64; 256];
+            lists::values::load(&t.care, &t.value, n, &mut given);
+            let mut list = [0u64; 256];
+            let g = projection_list(side, &given, n, l, keep, &mut list);
+            lists::values::made_or_full(u32::count_ones(keep), t, g, &list)
+        }
+    }
+}
+
+// The table of the other side with the same groups as t on this side: one procedure for both.
+pub fn change_side(side: Side, t: Table) -> Answered
+    ensures { λ r. ⌜ r ≡ change-side-call (side-of side) t ⌝ }
+{
+    match tables::check(t) {
+        Answer::Refused(r) => refused(r, t),
+        Answer::Accepted => {
+            let l = t.l;
+            let n = t.n;
+            let mut given = [0u64; 256];
+            lists::values::load(&t.care, &t.value, n, &mut given);
+            let mut list = [0u64; 256];
+            let g = procedures::sides::change_side(&given, n, l, &mut list);
+            lists::values::made_or_full(l, t, g, &list)
+        }
+    }
+}

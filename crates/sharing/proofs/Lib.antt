@@ -1,4 +1,0 @@
-pub mod Answers
-pub mod Demand2
-pub mod Exclusive
-pub mod Past
