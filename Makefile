@@ -13,12 +13,11 @@ SHELL := bash
 
 LIBRARY := $(CURDIR)/target/staticlib
 ARCHIVE := $(LIBRARY)/libanalyser.a
-TIMING := $(LIBRARY)/libtiming.a
 PROGRAM := target/bin/sharerun
 CRATES := crates.txt $(shell find crates -type f)
 FOLDERS := CARGO_TARGET_DIR=$(CURDIR)/target/cargo SHARING_LIB_DIR=$(LIBRARY)
 CARGO := $(FOLDERS) cargo
-BENCH := RUSTFLAGS="-C llvm-args=-align-all-functions=6" $(CARGO) run --quiet --release --manifest-path bench/Cargo.toml --
+BENCH := RUSTFLAGS="-C llvm-args=-align-all-functions=6" $(CARGO) run --quiet --release -p bench --
 
 # The header has the version.
 VERSION := $(shell sed -n 's/^.define SHARING_VERSION_M[A-Z]* \([0-9]*\)$$/\1./p; s/^.define SHARING_VERSION_PATCH //p' include/sharing.h | tr -d '\n')
@@ -32,17 +31,17 @@ test:
 	@tests/all
 
 plain:
-	@$(CARGO) test --quiet --manifest-path reference/Cargo.toml
+	@$(CARGO) test --quiet -p reference
 
-same: $(ARCHIVE) $(TIMING)
+same: library
 	@$(BENCH) --same
 
 calls: library
-	@$(CARGO) run --quiet --release --manifest-path tests/calls/Cargo.toml
+	@$(CARGO) run --quiet --release -p calls
 	@$(FOLDERS) tests/fences
 
 runs: $(PROGRAM)
-	@$(CARGO) run --quiet --release --manifest-path tests/runs/Cargo.toml
+	@$(CARGO) run --quiet --release -p runs
 
 tools: library $(PROGRAM)
 	@tests/tools
@@ -85,12 +84,9 @@ ifneq ($(MANUALS),)
 	@install -m 644 $(MANUALS) $(INTO)/share/man/man1
 endif
 
-bench: $(ARCHIVE) $(TIMING)
+bench: library
 	@$(BENCH)
 
 fmt:
 	@rt fmt
-	@cd reference && cargo fmt
-	@cd bench && cargo fmt
-	@cd tests/calls && cargo fmt
-	@cd tests/runs && cargo fmt
+	@cargo fmt --all

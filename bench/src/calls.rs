@@ -1,10 +1,5 @@
 //! The calls that the rows time, on byte forms, as users make them. Both sides have them.
 
-use reference::ENTRIES;
-
-/// The bytes of an output that is never too short.
-pub const FORM: usize = 4 + 4 * ENTRIES;
-
 /// The calls of one side, as include/sharing.h has them. Each returns 0 where it is accepted, else
 /// the number of the refusal, and then writes nothing.
 pub trait Calls {
@@ -27,9 +22,4 @@ pub trait Calls {
     /// All numbers of a state, to compare: code, side, applied, l and n, then 256 care words and
     /// 256 value words.
     fn numbers(state: &Self::State) -> Vec<u64>;
-}
-
-/// The entries that a form says it has.
-pub fn form_entries(form: &[u8]) -> usize {
-    usize::from(u16::from_le_bytes([form[2], form[3]]))
 }

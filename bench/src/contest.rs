@@ -3,9 +3,10 @@
 use std::hint::black_box;
 use std::time::Duration;
 
-use reference::{calls, Side};
+use reference::{byte_calls, Side};
+use support::tables::{form_entries, LONGEST};
 
-use crate::calls::{form_entries, Calls, FORM};
+use crate::calls::Calls;
 use crate::input::{Chain, Input};
 use crate::load::L;
 use crate::ours::Ours;
@@ -110,7 +111,7 @@ pub fn outcomes(input: &Input) -> Result<Vec<Outcome>, String> {
 
 fn side_outcomes<C: Calls>(input: &Input) -> Vec<Outcome> {
     let mut outcomes = Vec::new();
-    let mut out = [UNTOUCHED; FORM];
+    let mut out = [UNTOUCHED; LONGEST];
     perform::<C>(input, &mut out, |number, left| {
         outcomes.push(left.outcome(number));
     });
@@ -137,10 +138,10 @@ fn reference_answer(input: &Input) -> Option<u32> {
     let mut answer = UNTOUCHED.into();
     match input {
         Input::Equal { first, second } if few(first) => {
-            calls::equal(first, second, &mut answer);
+            byte_calls::equal(first, second, &mut answer);
         }
         Input::Independent { table, a, b } if few(table) => {
-            calls::independent(Side::Negative.number(), table, *a, *b, &mut answer);
+            byte_calls::independent(Side::Negative.number(), table, *a, *b, &mut answer);
         }
         _ => return None,
     }
@@ -149,7 +150,7 @@ fn reference_answer(input: &Input) -> Option<u32> {
 
 /// The time that each side takes for one pass over some inputs, in a round of about this length.
 pub fn times(inputs: &[Input], long: Duration) -> Times {
-    let [mut ours, mut plain] = [[0; FORM]; 2];
+    let [mut ours, mut plain] = [[0; LONGEST]; 2];
     least(
         long,
         || turn::<Ours>(inputs, &mut ours),

@@ -2,8 +2,8 @@
 
 use reference::forms::{bytes_of, table_length, write_table};
 use reference::{Entry, Equation, Refusal, Side, Table};
+use support::tables::form_entries;
 
-use crate::calls::form_entries;
 use crate::questions::{Equality, Independence, Question};
 
 /// The calls of one input.

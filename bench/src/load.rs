@@ -4,10 +4,11 @@ use std::slice;
 
 use reference::terms::head;
 use reference::{Equation, Refusal, Side, Table, ENTRIES, VARIABLES};
+use support::Random;
 
+use crate::drawing;
 use crate::input::Input;
 use crate::questions::{self, Sort};
-use crate::random::Random;
 use crate::tables;
 
 /// The number of variables of most inputs.
@@ -31,6 +32,9 @@ pub const SEED: u64 = 0x9E37_79B9_7F4A_7C15;
 /// The rows that came later have a generator of their own, so that the inputs of the others stay
 /// the same; this is the fraction of the root of 2.
 const LATER_SEED: u64 = 0x6A09_E667_F3BC_C908;
+
+/// The same for the rows of 16 variables; this is the fraction of the root of 3.
+const WIDER_SEED: u64 = 0xBB67_AE85_84CA_A73B;
 
 /// The bound of a row, as a multiple of its goal: least times, too, differ from run to run.
 const MARGIN: f64 = 1.25;
@@ -68,8 +72,8 @@ impl Row {
 /// All rows: growing by rising density of stars, converting, changes of side, one equation, chains
 /// of equations, the questions.
 pub fn rows() -> Result<Vec<Row>, Refusal> {
-    let mut random = Random(SEED);
-    let mut later = Random(LATER_SEED);
+    let mut random = Random::from_state(SEED);
+    let mut later = Random::from_state(LATER_SEED);
     let mut rows = Vec::new();
     for percent in (0..=90).step_by(10) {
         rows.push(growing(&mut random, percent)?);
@@ -79,13 +83,14 @@ pub fn rows() -> Result<Vec<Row>, Refusal> {
     }
     rows.push(change_of_side(
         "40 strings",
-        &tables::wide_strings(&mut later)?,
+        &tables::wide_strings(&mut later, L, 40, 3..=4)?,
     )?);
     rows.push(change_of_side(
         "most groups",
         &tables::most_groups(&mut later)?,
     )?);
     rows.extend(equations(&mut later)?);
+    rows.extend(wider(&mut Random::from_state(WIDER_SEED))?);
     rows.extend(chains(&mut random, &mut later)?);
     for l in questions::WIDTHS {
         for sort in questions::sorts(&mut random, l) {
@@ -96,9 +101,10 @@ pub fn rows() -> Result<Vec<Row>, Refusal> {
 }
 
 /// Forms of 256 strings, each position `*` with the given chance.
-fn growing(random: &mut Random, percent: u32) -> Result<Row, Refusal> {
+fn growing(random: &mut Random, percent: usize) -> Result<Row, Refusal> {
     let input = |_| {
-        let strings: Vec<_> = (0..ENTRIES).map(|_| random.string(L, percent)).collect();
+        let string = |_| drawing::string(random, L, percent);
+        let strings: Vec<_> = (0..ENTRIES).map(string).collect();
         Input::read(L, &strings)
     };
     let name = format!("growing by {ENTRIES}, {percent} % stars");
@@ -108,7 +114,7 @@ fn growing(random: &mut Random, percent: u32) -> Result<Row, Refusal> {
 /// Rows of nonzero groups.
 fn converting(random: &mut Random, count: usize) -> Result<Row, Refusal> {
     let input = |_| {
-        let groups = (0..count).map(|_| random.group(L)).collect();
+        let groups = (0..count).map(|_| drawing::group(random, L)).collect();
         Ok(Input::Convert { l: L, groups })
     };
     Row::new(format!("converting {count}"), 0.13, (0..INPUTS).map(input))
@@ -141,7 +147,7 @@ fn negative_equations(random: &mut Random) -> Result<Vec<Row>, Refusal> {
     };
     let mut rows = Vec::new();
     for (percent, fixed) in tables::SHARES {
-        let tables = tables::leaving(percent, fixed, EQUATIONS)?;
+        let tables = tables::leaving(L, percent, fixed, EQUATIONS)?;
         rows.push(negative(&format!("{percent} % left"), 0.35, &tables)?);
     }
     for draws in [2, 4] {
@@ -150,6 +156,19 @@ fn negative_equations(random: &mut Random) -> Result<Vec<Row>, Refusal> {
     }
     let most = tables::changed(&tables::most_groups(random)?)?;
     rows.push(negative("most groups", 0.35, &most)?);
+    Ok(rows)
+}
+
+/// The change of side and the negative equation at 16 variables. Strings are chosen so that few
+/// calls are full: with three or four positions fixed the change of side of 8 strings is for 21 of 64.
+fn wider(random: &mut Random) -> Result<Vec<Row>, Refusal> {
+    let strings = tables::wide_strings(random, VARIABLES, 24, 2..=3)?;
+    let mut rows = vec![change_of_side("24 strings of 16", &strings)?];
+    for (percent, fixed) in tables::SHARES {
+        let tables = tables::leaving(VARIABLES, percent, fixed, INPUTS)?;
+        let name = format!("negative equation of 16, {percent} %");
+        rows.push(equation(name, 0.35, Side::Negative, &tables)?);
+    }
     Ok(rows)
 }
 
@@ -180,7 +199,8 @@ fn chains(random: &mut Random, later: &mut Random) -> Result<Vec<Row>, Refusal> 
 
 fn chain(random: &mut Random, name: &str, goal: f64, tables: &[Table]) -> Result<Row, Refusal> {
     let input = |table| {
-        let equations: Vec<_> = (0..CHAIN).map(|_| random.equation(VARIABLES)).collect();
+        let equation = |_| drawing::equation(random, VARIABLES);
+        let equations: Vec<_> = (0..CHAIN).map(equation).collect();
         Input::chain(Side::Positive, table, &equations)
     };
     let name = format!("chain of {CHAIN}, {name}");

@@ -1,52 +1,9 @@
 //! The verified side: the exported calls of libanalyser.a, wrapped in safe functions.
 
-use reference::{Side, ENTRIES};
+use reference::Side;
+use support::library::*;
 
 use crate::calls::Calls;
-
-/// `sharing_table`.
-#[repr(C)]
-struct Table {
-    l: u32,
-    n: usize,
-    care: [u32; ENTRIES],
-    value: [u32; ENTRIES],
-}
-
-/// `sharing_running`.
-#[repr(C)]
-pub struct State {
-    code: u32,
-    side: u32,
-    applied: u32,
-    table: Table,
-}
-
-type In = *const u8;
-type Out = *mut u8;
-
-extern "C" {
-    fn sharing_read(table: In, len: usize, out: Out, out_len: usize) -> u32;
-    fn sharing_convert(l: u32, groups: *const u32, len: usize, out: Out, out_len: usize) -> u32;
-    fn sharing_change_side(side: u32, table: In, len: usize, out: Out, out_len: usize) -> u32;
-    fn sharing_start(side: u32, table: In, len: usize) -> State;
-    fn sharing_step(state: *mut State, variable: u32, term: In, len: usize) -> u32;
-    fn sharing_equal(
-        first: In,
-        first_len: usize,
-        second: In,
-        second_len: usize,
-        answer: *mut u32,
-    ) -> u32;
-    fn sharing_independent(
-        side: u32,
-        table: In,
-        len: usize,
-        first: u32,
-        second: u32,
-        answer: *mut u32,
-    ) -> u32;
-}
 
 /// The verified side.
 pub struct Ours;

@@ -4,7 +4,7 @@
 use reference::entry::low_bits;
 use reference::forms::read_table;
 use reference::refusal::number_of;
-use reference::{calls, Entry, Refusal, Running, ENTRIES};
+use reference::{byte_calls, Entry, Refusal, Running, ENTRIES};
 
 use crate::calls::Calls;
 use crate::enumeration;
@@ -16,23 +16,23 @@ impl Calls for Plain {
     type State = Running;
 
     fn read(table: &[u8], out: &mut [u8]) -> u32 {
-        calls::read(table, out)
+        byte_calls::read(table, out)
     }
 
     fn convert(l: u32, groups: &[u32], out: &mut [u8]) -> u32 {
-        calls::convert(l, groups, out)
+        byte_calls::convert(l, groups, out)
     }
 
     fn change_side(side: u32, table: &[u8], out: &mut [u8]) -> u32 {
-        calls::change_side(side, table, out)
+        byte_calls::change_side(side, table, out)
     }
 
     fn start(side: u32, table: &[u8]) -> Running {
-        calls::start(side, table)
+        byte_calls::start(side, table)
     }
 
     fn step(state: &mut Running, variable: u32, term: &[u8]) -> u32 {
-        calls::step(state, variable, term)
+        byte_calls::step(state, variable, term)
     }
 
     fn equal(first: &[u8], second: &[u8], answer: &mut u32) -> u32 {

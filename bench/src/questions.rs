@@ -4,8 +4,9 @@ use std::ops::RangeInclusive;
 
 use reference::entry::rising_bits;
 use reference::{Entry, ENTRIES};
+use support::Random;
 
-use crate::random::Random;
+use crate::drawing::{even_string, fixed_string, group, star, string, variables};
 
 /// The widths of the rows.
 pub const WIDTHS: [u32; 2] = [12, 16];
@@ -14,7 +15,7 @@ pub const WIDTHS: [u32; 2] = [12, 16];
 const INPUTS: usize = 16;
 
 /// The fixed positions of a hard string.
-const HARD: RangeInclusive<u32> = 3..=6;
+const HARD: RangeInclusive<usize> = 3..=6;
 
 /// The strings that each table of a pair has in two halves.
 const HALVED: usize = 32;
@@ -23,7 +24,7 @@ const HALVED: usize = 32;
 const COVERING: usize = 128;
 
 /// The variables of each set that is asked about.
-const ASKED: u32 = 3;
+const ASKED: usize = 3;
 
 /// The bound of a row, where it has no lower one.
 const BOUND: f64 = 1.5;
@@ -63,7 +64,7 @@ pub enum Strings {
     /// Each position 0, 1 or `*` with the same chance.
     Even,
     /// Each position `*` with this chance in percent.
-    Stars(u32),
+    Stars(usize),
     /// Three to six positions fixed.
     Hard,
 }
@@ -71,9 +72,9 @@ pub enum Strings {
 impl Strings {
     fn draw(self, random: &mut Random, l: u32) -> Entry {
         match self {
-            Strings::Even => random.even_string(l),
-            Strings::Stars(percent) => random.string(l, percent),
-            Strings::Hard => random.fixed_string(l, HARD),
+            Strings::Even => even_string(random, l),
+            Strings::Stars(percent) => string(random, l, percent),
+            Strings::Hard => fixed_string(random, l, HARD),
         }
     }
 
@@ -164,7 +165,7 @@ pub fn drawn_apart(random: &mut Random, strings: Strings, l: u32) -> Equality {
 fn all_covered(random: &mut Random, l: u32) -> Independence {
     let (a, b) = two_sets(random, l);
     let mut entries = covering(random, l, a, b);
-    entries.resize_with(ENTRIES, || random.even_string(l));
+    entries.resize_with(ENTRIES, || even_string(random, l));
     random.shuffle(&mut entries);
     Independence { l, entries, a, b }
 }
@@ -173,7 +174,7 @@ fn all_covered(random: &mut Random, l: u32) -> Independence {
 fn one_uncovered(random: &mut Random, l: u32) -> Independence {
     let mut asked = all_covered(random, l);
     let meets = |set: u32| set & set.wrapping_neg();
-    let group = random.group(l) | meets(asked.a) | meets(asked.b);
+    let group = group(random, l) | meets(asked.a) | meets(asked.b);
     for entry in asked.entries.iter_mut().filter(|entry| entry.covers(group)) {
         *entry = without(random, l, *entry, group);
     }
@@ -182,7 +183,7 @@ fn one_uncovered(random: &mut Random, l: u32) -> Independence {
 
 /// An entry fixed at one position more, or flipped, so that it does not cover a group.
 fn without(random: &mut Random, l: u32, entry: Entry, group: u32) -> Entry {
-    match random.star(l, entry) {
+    match star(random, l, entry) {
         Some(bit) => Entry {
             care: entry.care | bit,
             value: entry.value | (bit & !group),
@@ -208,7 +209,7 @@ fn covering(random: &mut Random, l: u32, a: u32, b: u32) -> Vec<Entry> {
         .flat_map(|x| rising_bits(b).map(move |y| Entry::ones_at(x | y)))
         .collect();
     while list.len() < COVERING {
-        let k = random.index(list.len());
+        let k = random.below(list.len());
         halve(random, l, &mut list, k);
     }
     list
@@ -216,8 +217,8 @@ fn covering(random: &mut Random, l: u32, a: u32, b: u32) -> Vec<Entry> {
 
 /// Two disjoint sets of variables.
 fn two_sets(random: &mut Random, l: u32) -> (u32, u32) {
-    let a = random.variables(l, ASKED, 0);
-    (a, random.variables(l, ASKED, a))
+    let a = variables(random, l, ASKED, 0);
+    (a, variables(random, l, ASKED, a))
 }
 
 fn draw_list(random: &mut Random, strings: Strings, l: u32, count: usize) -> Vec<Entry> {
@@ -238,7 +239,7 @@ fn halved(random: &mut Random, l: u32, mut list: Vec<Entry>) -> Vec<Entry> {
 
 /// Cuts one string in two at one of its stars, where it has one.
 fn halve(random: &mut Random, l: u32, list: &mut Vec<Entry>, k: usize) {
-    if let Some(bit) = random.star(l, list[k]) {
+    if let Some(bit) = star(random, l, list[k]) {
         list[k].care |= bit;
         let mut other = list[k];
         other.value |= bit;

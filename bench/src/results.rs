@@ -69,7 +69,7 @@ pub fn measure(rows: &[Row]) -> Vec<Measured<'_>> {
 /// their goal.
 pub fn print(results: &[Measured]) {
     println!(
-        "{:<30} {:>9} {:>9} {:>7} {:>8} {:>5} {:>5}",
+        "{:<32} {:>9} {:>9} {:>7} {:>8} {:>5} {:>5}",
         "row", "plain us", "ours us", "in turn", "repeated", "goal", "bound"
     );
     for result in results {
@@ -77,7 +77,7 @@ pub fn print(results: &[Measured]) {
         let [plain, ours] = result.in_turn.microseconds(row.inputs.len());
         let [in_turn, repeated] = result.ratios();
         println!(
-            "{:<30} {plain:>9.3} {ours:>9.3} {in_turn:>7.3} {repeated:>8.3} {:>5.2} {:>5.2}",
+            "{:<32} {plain:>9.3} {ours:>9.3} {in_turn:>7.3} {repeated:>8.3} {:>5.2} {:>5.2}",
             row.name, row.goal, row.bound
         );
     }

@@ -47,13 +47,13 @@ impl Summary<'_> {
 /// Prints a line for each row, and last how many inputs there are.
 pub fn print(summaries: &[Summary]) {
     println!(
-        "{:<30} {:>6} {:>5} {:>7} {:>4} {:>4}",
+        "{:<32} {:>6} {:>5} {:>7} {:>4} {:>4}",
         "row", "inputs", "given", "refused", "left", "most"
     );
     let number = |number: Option<usize>| number.map_or("-".into(), |number| number.to_string());
     for summary in summaries {
         println!(
-            "{:<30} {:>6} {:>5} {:>7} {:>4} {:>4}",
+            "{:<32} {:>6} {:>5} {:>7} {:>4} {:>4}",
             summary.name,
             summary.inputs,
             summary.given,

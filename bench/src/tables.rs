@@ -4,10 +4,11 @@ use std::iter::{once, repeat_with};
 use std::ops::RangeInclusive;
 
 use reference::entry::{low_bits, rising_bits};
-use reference::{groups, growth, values, Entry, Refusal, Side, Table, VARIABLES};
+use reference::{groups, growth, operations, Entry, Refusal, Side, Table, VARIABLES};
+use support::Random;
 
-use crate::load::{CHAINS, INPUTS, L};
-use crate::random::{Draws, Random};
+use crate::drawing::{even_string, fixed_string, some_variables, Draws};
+use crate::load::{CHAINS, INPUTS};
 
 /// So few variables that a table can hold most of the groups.
 const FEW: u32 = 8;
@@ -15,7 +16,7 @@ const FEW: u32 = 8;
 /// The percent of the groups that negative tables leave at most, and how many positions of their
 /// strings are fixed. The equation on them is full for 4, 2 and 0 of 100; with up to six positions
 /// fixed it would be for 45, 11 and 0.
-pub const SHARES: [(u32, RangeInclusive<u32>); 3] = [(50, 3..=4), (70, 3..=5), (90, 3..=6)];
+pub const SHARES: [(u32, RangeInclusive<usize>); 3] = [(50, 3..=4), (70, 3..=5), (90, 3..=6)];
 
 /// Tables of one sort; a refusal says that one cannot be made.
 pub type Tables = Result<Vec<Table>, Refusal>;
@@ -25,42 +26,54 @@ pub fn drawn(l: u32, seeds: usize, draws: usize) -> Tables {
     let table = |seed| {
         let mut strings = Draws(seed);
         let strings: Vec<u32> = (0..draws).map(|_| strings.string(l)).collect();
-        values::convert(l, &strings)
+        operations::convert(l, &strings)
     };
     (1..).take(seeds).map(table).collect()
 }
 
 /// What positive tables are changed to.
 pub fn changed(tables: &[Table]) -> Tables {
-    tables.iter().map(values::change_side).collect()
+    tables.iter().map(operations::change_side).collect()
 }
 
-/// Positive tables of 40 strings with three or four of 12 positions fixed, so that 67 to 75 % are
-/// `*`. Their change of side leaves some 27 entries (median) and is full for 6 of 64; with up to
-/// five positions fixed it would be full for half of them.
-pub fn wide_strings(random: &mut Random) -> Tables {
-    let mut table = || filled(random, 3..=4, |table| table.entries.len() == 40);
+/// Positive tables of so many strings with few positions fixed. Of 40 strings of 12 variables with
+/// three or four positions fixed 67 to 75 % are `*`, and the change of side leaves some 27 entries
+/// (median) and is full for 6 of 64; with up to five positions fixed it would be full for half of
+/// them.
+pub fn wide_strings(
+    random: &mut Random,
+    l: u32,
+    strings: usize,
+    fixed: RangeInclusive<usize>,
+) -> Tables {
+    let mut table = || {
+        filled(random, l, fixed.clone(), |table| {
+            table.entries.len() == strings
+        })
+    };
     (0..INPUTS).map(|_| table()).collect()
 }
 
-/// Negative tables of random strings, drawn until they leave at most so many percent of the groups
-/// of 12 variables; 3 or 4 percent fewer are left (medians). One table of each seed from 1 on.
-pub fn leaving(percent: u32, fixed: RangeInclusive<u32>, seeds: usize) -> Tables {
-    let share = percent as usize * low_bits(L) as usize;
+/// Negative tables of random strings, drawn until they leave at most so many percent of the groups;
+/// 3 or 4 percent fewer are left (medians). One table of each seed from 1 on.
+pub fn leaving(l: u32, percent: u32, fixed: RangeInclusive<usize>, seeds: usize) -> Tables {
+    let share = percent as usize * low_bits(l) as usize;
     let few = |table: &Table| 100 * groups(table, Side::Negative).iter().count() <= share;
-    let table = |seed| filled(&mut Random(seed), fixed.clone(), few);
+    let table = |seed| filled(&mut Random::from_state(seed), l, fixed.clone(), few);
     (1..).take(seeds).map(table).collect()
 }
 
-/// The table that random strings of 12 positions make, some of them fixed, once there are enough.
+/// The table that random strings make, some of their positions fixed, once there are enough.
 fn filled(
     random: &mut Random,
-    fixed: RangeInclusive<u32>,
+    l: u32,
+    fixed: RangeInclusive<usize>,
     enough: impl Fn(&Table) -> bool,
 ) -> Result<Table, Refusal> {
-    let mut table = Table::empty(L);
+    let mut table = Table::empty(l);
     while !enough(&table) {
-        growth::grow(L, &mut table.entries, random.fixed_string(L, fixed.clone()))?;
+        let string = fixed_string(random, l, fixed.clone());
+        growth::grow(l, &mut table.entries, string)?;
     }
     Ok(table)
 }
@@ -71,9 +84,9 @@ fn filled(
 pub fn most_groups(random: &mut Random) -> Tables {
     let mut table = || {
         let groups = 1..=low_bits(FEW);
-        let mut groups: Vec<u32> = groups.filter(|_| random.chance(80)).collect();
+        let mut groups: Vec<u32> = groups.filter(|_| random.percent(80)).collect();
         random.shuffle(&mut groups);
-        values::convert(FEW, &groups)
+        operations::convert(FEW, &groups)
     };
     (0..INPUTS).map(|_| table()).collect()
 }
@@ -81,7 +94,7 @@ pub fn most_groups(random: &mut Random) -> Tables {
 /// Tables of one entry of 16 variables: the all-star string, which stands for all groups, then
 /// random strings. X1 to X3 are `*` in each, so that an equation on them has something to do.
 pub fn one_entry(random: &mut Random) -> Vec<Table> {
-    let strings = repeat_with(|| random.even_string(VARIABLES).star(1).star(2).star(4));
+    let strings = repeat_with(|| even_string(random, VARIABLES).star(1).star(2).star(4));
     let entries = once(Entry::ALL_STAR).chain(strings).take(INPUTS);
     let table = |entry| Table {
         l: VARIABLES,
@@ -93,7 +106,7 @@ pub fn one_entry(random: &mut Random) -> Vec<Table> {
 /// The table of the 16 groups of one variable each, as before the first equation of a clause whose
 /// variables are all free, for each chain.
 pub fn single_groups() -> Tables {
-    let table = values::convert(VARIABLES, &singles())?;
+    let table = operations::convert(VARIABLES, &singles())?;
     Ok(vec![table; CHAINS])
 }
 
@@ -101,8 +114,8 @@ pub fn single_groups() -> Tables {
 pub fn more_groups(random: &mut Random) -> Tables {
     let mut table = || {
         let mut groups = singles();
-        groups.extend((0..8).map(|_| random.some_variables(VARIABLES, 2..=3)));
-        values::convert(VARIABLES, &groups)
+        groups.extend((0..8).map(|_| some_variables(random, VARIABLES, 2..=3)));
+        operations::convert(VARIABLES, &groups)
     };
     (0..CHAINS).map(|_| table()).collect()
 }

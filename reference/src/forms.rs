@@ -82,7 +82,7 @@ pub fn read_table(bytes: &[u8]) -> Result<Table, Refusal> {
 }
 
 /// Reads a form after which more may follow, and gives the bytes after it.
-pub fn read_table_prefix(bytes: &[u8]) -> Result<(Table, &[u8]), Refusal> {
+pub fn read_front(bytes: &[u8]) -> Result<(Table, &[u8]), Refusal> {
     let (l, n) = read_table_sizes(bytes)?;
     let (form, rest) = bytes
         .split_at_checked(table_length(n))

@@ -8,19 +8,19 @@
 #![warn(missing_docs)]
 
 pub mod binary;
-pub mod calls;
+pub mod byte_calls;
 pub mod entry;
+pub mod equations;
 pub mod forms;
 pub mod growth;
+pub mod operations;
 pub mod questions;
 pub mod refusal;
 pub mod report;
 pub mod running;
-pub mod sharing;
 pub mod sides;
 pub mod table;
 pub mod terms;
-pub mod values;
 
 pub use binary::{groups, GroupSet};
 pub use entry::Entry;

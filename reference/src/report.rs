@@ -1,6 +1,6 @@
 //! The text of the program `sharerun` (01, "The program `sharerun`").
 
-use crate::forms::{read_equations, read_table_prefix};
+use crate::forms::{read_equations, read_front};
 use crate::refusal::Refusal;
 use crate::running::Running;
 use crate::table::{Side, Table};
@@ -37,7 +37,7 @@ fn read_input(input: &[u8]) -> Result<(Table, Vec<Equation>), Refusal> {
     if input.len() > INPUT {
         return Err(Refusal::Torn);
     }
-    let (table, rest) = read_table_prefix(input)?;
+    let (table, rest) = read_front(input)?;
     let equations = read_equations(table.l, rest)?;
     Ok((table, equations))
 }

@@ -1,11 +1,11 @@
 //! The running analysis and the run (01, "Written form" and "Refusals").
 
+use crate::equations;
 use crate::forms::{read_equations, read_table, read_tokens, write_table};
+use crate::operations;
 use crate::refusal::{number_of, Refusal};
-use crate::sharing;
 use crate::table::{Side, Table};
 use crate::terms::{variables, Equation};
-use crate::values;
 
 /// The state of a running analysis.
 #[derive(Clone, Debug, PartialEq, Eq)]
@@ -46,7 +46,7 @@ impl Running {
     pub fn apply(&mut self, equation: &Equation) -> Result<(), Refusal> {
         let side = Side::of_number(self.side);
         let (x, set) = (u32::from(equation.left), variables(&equation.term));
-        let entries = sharing::equation(side, self.table.l, &self.table.entries, x, set);
+        let entries = equations::equation(side, self.table.l, &self.table.entries, x, set);
         let outcome = entries.map(|entries| Table {
             l: self.table.l,
             entries,
@@ -69,7 +69,7 @@ impl Running {
     fn next_table(&self, variable: u32, term: &[u8]) -> Result<Table, Refusal> {
         self.table.check()?;
         let tokens = read_tokens(term)?;
-        values::equation(Side::of_number(self.side), &self.table, variable, &tokens)
+        operations::equation(Side::of_number(self.side), &self.table, variable, &tokens)
     }
 }
 

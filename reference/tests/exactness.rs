@@ -2,12 +2,14 @@
 
 mod common;
 
-use common::{form, Random, SIDES};
+use common::{some_table, some_term, SIDES};
 use reference::forms::read_table;
 use reference::terms::variables;
 use reference::{
-    binary, groups, growth, questions, sharing, sides, values, Entry, GroupSet, Side, Table,
+    binary, equations, groups, growth, operations, questions, sides, Entry, GroupSet, Side, Table,
 };
+use support::tables::form;
+use support::Random;
 
 /// The number of cases of each test.
 const CASES: u64 = 4000;
@@ -15,9 +17,9 @@ const CASES: u64 = 4000;
 /// Tries a property on random cases: a generator, l from 1 to 6 and a table.
 fn for_cases(seed: u64, property: impl Fn(&mut Random, u32, &Table)) {
     for case in 0..CASES {
-        let mut random = Random(seed * 1_000_003 + case);
-        let l = 1 + random.below(6);
-        let table = random.table(l, 12);
+        let mut random = Random::new(seed * 1_000_003 + case);
+        let l = random.within(1, 6) as u32;
+        let table = some_table(&mut random, l, 12);
         property(&mut random, l, &table);
     }
 }
@@ -30,10 +32,10 @@ fn covered(l: u32, entries: Vec<Entry>) -> GroupSet {
 #[test]
 fn equation_is_exact() {
     for_cases(1, |random, l, table| {
-        let x = 1 + random.below(l);
-        let term = random.term(l, 3);
+        let x = u32::from(random.variable(l));
+        let term = some_term(random, l);
         for side in SIDES {
-            let result = values::equation(side, table, x, &term).expect("accepted");
+            let result = operations::equation(side, table, x, &term).expect("accepted");
             let expected = binary::equation(&groups(table, side), x, variables(&term));
             assert_eq!(
                 groups(&result, side),
@@ -47,9 +49,9 @@ fn equation_is_exact() {
 #[test]
 fn join_is_exact() {
     for_cases(2, |random, l, first| {
-        let second = random.table(l, 12);
+        let second = some_table(random, l, 12);
         for side in SIDES {
-            let result = values::join(side, first, &second).expect("accepted");
+            let result = operations::join(side, first, &second).expect("accepted");
             let expected = binary::join(&groups(first, side), &groups(&second, side));
             assert_eq!(
                 groups(&result, side),
@@ -63,9 +65,9 @@ fn join_is_exact() {
 #[test]
 fn projection_is_exact() {
     for_cases(3, |random, l, table| {
-        let keep = random.set(l) | 1 << random.below(l);
+        let keep = random.set(l).max(1);
         for side in SIDES {
-            let result = values::projection(side, table, keep).expect("accepted");
+            let result = operations::projection(side, table, keep).expect("accepted");
             assert_eq!(result.l, keep.count_ones());
             assert_eq!(
                 groups(&result, side),
@@ -79,7 +81,7 @@ fn projection_is_exact() {
 #[test]
 fn change_of_side_keeps_the_groups() {
     for_cases(4, |_, _, table| {
-        let result = values::change_side(table).expect("accepted");
+        let result = operations::change_side(table).expect("accepted");
         for side in SIDES {
             assert_eq!(
                 groups(&result, side.other()),
@@ -94,8 +96,8 @@ fn change_of_side_keeps_the_groups() {
 fn convert_is_exact() {
     for_cases(5, |random, l, _| {
         let count = random.below(1 << l);
-        let words: Vec<u32> = (0..count).map(|_| random.below(1 << l)).collect();
-        let result = values::convert(l, &words).expect("accepted");
+        let words: Vec<u32> = (0..count).map(|_| random.below(1 << l) as u32).collect();
+        let result = operations::convert(l, &words).expect("accepted");
         assert_eq!(groups(&result, Side::Positive), GroupSet::of(l, words));
     });
 }
@@ -104,10 +106,10 @@ fn convert_is_exact() {
 fn inner_lists_are_exact() {
     for_cases(6, |random, l, table| {
         let set = groups(table, Side::Positive);
-        let (names, other) = (random.set(l), random.table(l, 6));
-        let relevant = sharing::relevant(l, &table.entries, names).expect("accepted");
+        let (names, other) = (random.set(l), some_table(random, l, 6));
+        let relevant = equations::relevant(l, &table.entries, names).expect("accepted");
         assert_eq!(covered(l, relevant), binary::relevant(&set, names));
-        let irrelevant = sharing::irrelevant(l, &table.entries, names).expect("accepted");
+        let irrelevant = equations::irrelevant(l, &table.entries, names).expect("accepted");
         assert_eq!(covered(l, irrelevant), binary::irrelevant(&set, names));
         let meets = sides::meets(l, &table.entries, &other.entries).expect("accepted");
         let both = set.filter(|group| groups(&other, Side::Positive).contains(group));
@@ -121,12 +123,12 @@ fn inner_lists_are_exact() {
 fn cross_and_close_are_exact() {
     for_cases(7, |random, l, table| {
         let names = random.set(l) | 1;
-        let first = sharing::relevant(l, &table.entries, 1).expect("accepted");
-        let second = sharing::relevant(l, &table.entries, names).expect("accepted");
-        let crossed = sharing::cross(l, &first, &second).expect("accepted");
+        let first = equations::relevant(l, &table.entries, 1).expect("accepted");
+        let second = equations::relevant(l, &table.entries, names).expect("accepted");
+        let crossed = equations::cross(l, &first, &second).expect("accepted");
         let expected = binary::cross(&covered(l, first), &covered(l, second));
         assert_eq!(covered(l, crossed.clone()), expected);
-        let closed = sharing::close(l, &crossed).expect("accepted");
+        let closed = equations::close(l, &crossed).expect("accepted");
         assert_eq!(covered(l, closed), binary::close(&expected));
     });
 }
@@ -134,8 +136,8 @@ fn cross_and_close_are_exact() {
 #[test]
 fn growth_adds_exactly_the_string() {
     for_cases(8, |random, l, table| {
-        let stars = random.below(4);
-        let y = random.entry(l, stars);
+        let stars = random.pick(&[0, 25, 50, 75]);
+        let y = random.string(l, stars);
         let before = groups(table, Side::Positive);
         let mut list = table.entries.clone();
         growth::grow(l, &mut list, y).expect("accepted");
@@ -155,8 +157,8 @@ fn growth_adds_exactly_the_string() {
 #[test]
 fn questions_answer_by_groups() {
     for_cases(9, |random, l, table| {
-        let second = random.table(l, 4);
-        let (a, b, x) = (random.set(l), random.set(l), 1 + random.below(l));
+        let second = some_table(random, l, 4);
+        let (a, b, x) = (random.set(l), random.set(l), u32::from(random.variable(l)));
         for side in SIDES {
             let set = groups(table, side);
             assert_eq!(
@@ -184,16 +186,16 @@ fn questions_answer_by_groups() {
 #[test]
 fn results_read_back() {
     for_cases(10, |random, l, table| {
-        let (x, term) = (1 + random.below(l), random.term(l, 3));
-        let (second, keep) = (random.table(l, 12), random.set(l) | 1);
+        let (x, term) = (u32::from(random.variable(l)), some_term(random, l));
+        let (second, keep) = (some_table(random, l, 12), random.set(l) | 1);
         let given = read_table(&form(table)).expect("reads");
         assert_eq!(read_table(&form(&given)), Ok(given.clone()));
         for side in SIDES {
             for result in [
-                values::equation(side, &given, x, &term),
-                values::join(side, &given, &second),
-                values::projection(side, &given, keep),
-                values::change_side(&given),
+                operations::equation(side, &given, x, &term),
+                operations::join(side, &given, &second),
+                operations::projection(side, &given, keep),
+                operations::change_side(&given),
             ] {
                 let result = result.expect("accepted");
                 assert_eq!(read_table(&form(&result)), Ok(result));

@@ -2,11 +2,13 @@
 
 mod common;
 
-use common::{equations_form, form, table, text, Random};
-use reference::forms::{bytes_of, read_equations, read_table, read_table_prefix, read_tokens};
+use common::{equations_form, some_term, table, text};
+use reference::forms::{bytes_of, read_equations, read_front, read_table, read_tokens};
 use reference::forms::{write_equations, write_table};
 use reference::terms::head;
 use reference::{Entry, Equation, Refusal, Table, ENTRIES};
+use support::tables::form;
+use support::Random;
 
 /// Reads a row of words as the exact form of a table.
 fn read_words(words: &[u16]) -> Result<Table, Refusal> {
@@ -46,11 +48,8 @@ fn reading_grows_the_entries() {
 #[test]
 fn more_may_follow_a_prefix() {
     let bytes = [form(&table(2, "01 1*")), vec![5, 6, 7]].concat();
-    assert_eq!(
-        read_table_prefix(&bytes),
-        Ok((table(2, "01 1*"), &[5, 6, 7][..]))
-    );
-    assert_eq!(read_table_prefix(&bytes[..11]), Err(Refusal::Torn));
+    assert_eq!(read_front(&bytes), Ok((table(2, "01 1*"), &[5, 6, 7][..])));
+    assert_eq!(read_front(&bytes[..11]), Err(Refusal::Torn));
     assert_eq!(read_table(&bytes), Err(Refusal::Torn));
 }
 
@@ -183,13 +182,13 @@ fn terms_of_1024_tokens_are_taken() {
 #[test]
 fn written_equations_read_back() {
     for seed in 0..2000 {
-        let mut random = Random(seed + 5);
-        let l = 1 + random.below(16);
+        let mut random = Random::new(seed + 5);
+        let l = random.within(1, 16) as u32;
         let count = random.below(10);
         let equations: Vec<Equation> = (0..count)
             .map(|_| Equation {
-                left: 1 + random.below(l) as u16,
-                term: random.term(l, 3),
+                left: random.variable(l),
+                term: some_term(&mut random, l),
             })
             .collect();
         let expected = equations_form(&equations);

@@ -6,7 +6,7 @@ use common::{even_strings, SIDES};
 use reference::entry::low_bits;
 use reference::growth::{convert, grow, widen};
 use reference::terms::head;
-use reference::{sharing, sides, values, Entry, Refusal, Side, Table};
+use reference::{equations, operations, sides, Entry, Refusal, Side, Table};
 
 /// A table of so many strings of 10 positions, none within one flip of another.
 fn even_table(count: usize) -> Table {
@@ -51,14 +51,14 @@ fn join_is_full_at_entry_257() {
         l: 10,
         entries: vec![Entry::of_group(10, 1)],
     };
-    let joined = values::join(Side::Positive, &even_table(255), &one);
+    let joined = operations::join(Side::Positive, &even_table(255), &one);
     assert_eq!(joined.map(|table| table.entries.len()), Ok(256));
     assert_eq!(
-        values::join(Side::Positive, &even_table(256), &one),
+        operations::join(Side::Positive, &even_table(256), &one),
         Err(Refusal::Full)
     );
     assert_eq!(
-        values::join(Side::Positive, &one, &even_table(256)),
+        operations::join(Side::Positive, &one, &even_table(256)),
         Err(Refusal::Full)
     );
 }
@@ -67,9 +67,9 @@ fn join_is_full_at_entry_257() {
 #[test]
 fn every_list_of_an_equation_has_the_limit() {
     let term = [head(1, 2), 2, 3];
-    assert!(values::equation(Side::Positive, &open_table(128), 1, &term).is_ok());
+    assert!(operations::equation(Side::Positive, &open_table(128), 1, &term).is_ok());
     assert_eq!(
-        values::equation(Side::Positive, &open_table(129), 1, &term),
+        operations::equation(Side::Positive, &open_table(129), 1, &term),
         Err(Refusal::Full)
     );
 }
@@ -82,14 +82,14 @@ fn negative_equation_is_full_on_a_full_table() {
         entries: vec![Entry::of_group(10, 1); 256],
     };
     assert_eq!(
-        values::equation(Side::Negative, &full, 1, &[2]),
+        operations::equation(Side::Negative, &full, 1, &[2]),
         Err(Refusal::Full)
     );
     let one = Table {
         l: 10,
         entries: vec![Entry::of_group(10, 1)],
     };
-    assert!(values::equation(Side::Negative, &one, 1, &[2]).is_ok());
+    assert!(operations::equation(Side::Negative, &one, 1, &[2]).is_ok());
 }
 
 #[test]
@@ -106,7 +106,7 @@ fn inner_rules_take_32_positions() {
         Entry::ones_at(high).flip(high)
     );
     for side in SIDES {
-        let result = sharing::equation(side, 32, &all, 32, low);
+        let result = equations::equation(side, 32, &all, 32, low);
         assert!(result.is_ok());
         assert!(sides::projection(side, 32, &all, high | low).is_ok());
     }

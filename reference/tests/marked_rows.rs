@@ -4,9 +4,9 @@ mod common;
 
 use common::{entry, group_words, table, text};
 use reference::growth::grow;
+use reference::operations::{change_side, convert, equation, projection};
 use reference::questions::{equal, ground};
 use reference::terms::head;
-use reference::values::{change_side, convert, equation, projection};
 use reference::{Side, Table};
 
 /// The positive table of an equation, as text.

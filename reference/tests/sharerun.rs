@@ -2,11 +2,13 @@
 
 mod common;
 
-use common::{equations_form, form, table, Random, SIDES};
-use reference::calls::{run, start, step, write};
+use common::{equations_form, some_table, some_term, table, SIDES};
+use reference::byte_calls::{run, start, step, write};
 use reference::forms::{bytes_of, read_table};
 use reference::terms::head;
-use reference::{report, values, Entry, Equation, Table};
+use reference::{operations, report, Entry, Equation, Table};
+use support::tables::form;
+use support::Random;
 
 /// The input words of the example in 01.
 const EXAMPLE: [u16; 17] = [3, 3, 7, 3, 5, 1, 2, 4, 2, 3, 1, 3, 2, 1, 32785, 2, 32800];
@@ -122,11 +124,11 @@ fn lists_below_257_are_not_full() {
     );
     let full = common::even_strings(257);
     assert_eq!(
-        values::convert(10, &full[..256]).map(|t| t.entries.len()),
+        operations::convert(10, &full[..256]).map(|t| t.entries.len()),
         Ok(256)
     );
     assert_eq!(
-        values::convert(10, &full).map_err(|refusal| refusal.number()),
+        operations::convert(10, &full).map_err(|refusal| refusal.number()),
         Err(8)
     );
 }
@@ -150,13 +152,13 @@ fn run_checks_the_whole_input_first() {
 #[test]
 fn run_and_running_analysis_agree() {
     for seed in 0..1000 {
-        let mut random = Random(seed + 99);
-        let l = 1 + random.below(5);
-        let bytes = form(&random.table(l, 8));
+        let mut random = Random::new(seed + 99);
+        let l = random.within(1, 5) as u32;
+        let bytes = form(&some_table(&mut random, l, 8));
         let equations: Vec<Equation> = (0..random.below(5))
             .map(|_| Equation {
-                left: 1 + random.below(l) as u16,
-                term: random.term(l, 2),
+                left: random.variable(l),
+                term: some_term(&mut random, l),
             })
             .collect();
         for side in SIDES {
@@ -166,7 +168,7 @@ fn run_and_running_analysis_agree() {
                 let left = u32::from(equation.left);
                 assert_eq!(step(&mut state, left, &bytes_of(equation.term.clone())), 0);
                 expected =
-                    values::equation(side, &expected, left, &equation.term).expect("accepted");
+                    operations::equation(side, &expected, left, &equation.term).expect("accepted");
             }
             assert_eq!(
                 state,

@@ -5,7 +5,8 @@
  *     files FOLDER COUNT SEED
  *
  * writes for each K from 0: K.txt a good file; K.words what `input` writes; K.after.N what `pairs`
- * prints after N equations, for each N; and K.bad, the file with a few bytes changed.
+ * prints after N equations, for each N; K.show what `show` prints; and K.bad, the file with a few
+ * bytes changed.
  */
 #include <stdarg.h>
 #include <stdbool.h>
@@ -354,18 +355,29 @@ static void write_absent(FILE *to, const groups *start) {
                           : " are in no group at the start: they count as known", to);
 }
 
-static void write_pair(FILE *to, const groups *now, const groups *start, unsigned after,
-                       const unsigned pair[2]) {
-    bool no = meets(now, 1u << pair[0], 1u << pair[1]);
-    bool absent = false;
+/* Is a variable of the line vars in no group at the start? */
+static bool has_absent(const groups *start) {
     for (unsigned i = 0; i < file.named; i++)
-        absent |= !meets(start, 1u << i, 1u << i);
-    fprintf(to, "%s and %s: may %srun side by side ", file.name[pair[0]], file.name[pair[1]],
-            no ? "not " : "");
+        if (!meets(start, 1u << i, 1u << i))
+            return true;
+    return false;
+}
+
+/* Where a point is. */
+static void write_place(FILE *to, unsigned after) {
     if (after == 0)
         fputs("before the first equation", to);
     else
         fprintf(to, "after equation %u, %s", after, file.equation[after - 1].text);
+}
+
+static void write_pair(FILE *to, const groups *now, const groups *start, unsigned after,
+                       const unsigned pair[2]) {
+    bool no = meets(now, 1u << pair[0], 1u << pair[1]);
+    bool absent = has_absent(start);
+    fprintf(to, "%s and %s: may %srun side by side ", file.name[pair[0]], file.name[pair[1]],
+            no ? "not " : "");
+    write_place(to, after);
     if (no || absent)
         fputs(no && absent ? " (they may share a variable; "
                            : no ? " (they may share a variable" : " (", to);
@@ -373,9 +385,62 @@ static void write_pair(FILE *to, const groups *now, const groups *start, unsigne
     fputs(no || absent ? ")\n" : "\n", to);
 }
 
-/* What `pairs` prints at each point. */
+/* The row of a group: x for each of its variables. A greater row stands before a lesser one. */
+static const char *row_of(unsigned group) {
+    static char row[2 * (NAMED + UNNAMED) + 1];
+    for (unsigned i = 0; i < file.width; i++)
+        snprintf(row + 2 * i, 3, " %c", (group >> i & 1) != 0 ? 'x' : '.');
+    return row;
+}
+
+/* The group of so many variables whose row is the greatest that is less than `last`; 0 is none. */
+static unsigned next_group(const groups *now, unsigned size, const char *last) {
+    unsigned best = 0;
+    char row[2 * (NAMED + UNNAMED) + 1] = "";
+    for (unsigned g = 1; g < GROUPS; g++) {
+        unsigned variables = 0;
+        for (unsigned i = 0; i < file.width; i++)
+            variables += g >> i & 1;
+        if (now->has[g] && variables == size && strcmp(row_of(g), last) < 0 &&
+            strcmp(row_of(g), row) > 0) {
+            best = g;
+            strcpy(row, row_of(g));
+        }
+    }
+    return best;
+}
+
+/* What `show` prints at a point: with six positions there are at most 63 groups, and all fit. */
+static void write_show(FILE *to, const groups *now, const groups *start, unsigned after) {
+    unsigned count = 0;
+    for (unsigned g = 1; g < GROUPS; g++)
+        count += now->has[g];
+    fputs("Groups ", to);
+    write_place(to, after);
+    fputs(has_absent(start) ? " (" : "", to);
+    write_absent(to, start);
+    fputs(has_absent(start) ? "): " : ": ", to);
+    if (count == 0)
+        fputs("none\n", to);
+    else
+        fprintf(to, "%u\n", count);
+    for (unsigned i = 0; count > 0 && i < file.width; i++) {
+        fputs("    ", to);
+        for (unsigned j = 0; j < i; j++)
+            fputs("| ", to);
+        fprintf(to, "%s\n", i < file.named ? file.name[i] : "_");
+    }
+    for (unsigned size = 1; size <= file.width; size++) {
+        char row[2 * (NAMED + UNNAMED) + 1] = "~";
+        for (unsigned g; (g = next_group(now, size, row)) != 0;)
+            fprintf(to, "   %s\n", strcpy(row, row_of(g)));
+    }
+}
+
+/* What `pairs` and `show` print at each point. */
 static void write_points(const char *folder, unsigned number) {
     groups start = start_groups(), now = start;
+    FILE *shown = open_result(folder, number, "show");
     for (unsigned after = 0; after <= file.equations; after++) {
         char kind[20];
         FILE *to;
@@ -386,8 +451,10 @@ static void write_points(const char *folder, unsigned number) {
         for (unsigned i = 0; i < file.named; i++)
             for (unsigned j = i + 1; j < file.named; j++)
                 write_pair(to, &now, &start, after, (unsigned[]){i, j});
+        write_show(shown, &now, &start, after);
         fclose(to);
     }
+    fclose(shown);
 }
 
 /* The file with one to three places changed. */

@@ -23,6 +23,8 @@ good_file() {
         answers=$((answers + 1))
         [[ $(<"$out") != *"may not"* ]] || refusing=$((refusing + 1))
     done
+    run show "$file"
+    same "groups of $file" "0 " "$status $(cmp "$folder/$1.show" "$out" 2>&1)"
 }
 
 # The last run, of a changed file, had no output, the status 2 and a message with a place that is in the file.
@@ -46,13 +48,15 @@ bad_file() {
     if ((status == 0)); then
         taken=$((taken + 1))
         same "what sharerun says of the words of $file" "" "$("$sharerun" <"$out" | grep refused || true)"
-        run tables "$file"
-        same "status of tables of $file" 0 "$status"
+        for command in tables show; do
+            run "$command" "$file"
+            same "status of $command of $file" 0 "$status"
+        done
         return
     fi
     told=$((told + 1))
     told_place "input $file"
-    for command in pairs tables; do
+    for command in pairs tables show; do
         run "$command" "$file"
         told_place "$command $file"
     done

@@ -7,9 +7,10 @@ usage() { "$program" --help | sed '/^$/,$d'; }
 
 wrong_runs() {
     cp examples/parish.txt "$file"
-    same "the commands of the usage" "input explain apart pairs tables --help" "$(usage | sed 's/.*sharetext //; s/ .*//' | grep -v version | xargs)"
+    same "the commands of the usage" "input explain apart pairs tables show --help" "$(usage | sed 's/.*sharetext //; s/ .*//' | grep -v version | xargs)"
     for arguments in "" "input" "input a b" "explain a" "apart $file X1" "apart $file X1 X2 X3" "inputs $file" "-" "--after 1" "-h" \
         "pairs" "pairs $file X1" "pairs $file --after" "pairs $file --after 1 --after 1" "pairs --before 1 $file" "tables" "tables $file --after 1" \
+        "show" "show $file $file" "show $file --after 1" \
         "input $file --after 1" "explain --after 1" "apart $file - - -v" "apart $file --after=1 - -" "--help me" "help input" "Help"; do
         # shellcheck disable=SC2086 # the words are the arguments
         run $arguments
@@ -20,7 +21,7 @@ wrong_runs() {
     status=0
     "$program" explain <"$scratch" >"$out" 2>"$err" || status=$?
     ended "explain of a folder" 2 "" "standard input: The file cannot be read: Is a directory."
-    for arguments in "input $file" "explain" "apart $file Baptism Wedding" "apart $file Baptism Parish" "pairs $file" "tables $file" --help; do
+    for arguments in "input $file" "explain" "apart $file Baptism Wedding" "apart $file Baptism Parish" "pairs $file" "tables $file" "show $file" --help; do
         status=0
         # shellcheck disable=SC2086
         "$program" $arguments <"$file" >/dev/full 2>"$err" || status=$?
@@ -28,7 +29,7 @@ wrong_runs() {
         same "message of $arguments to a full device" "sharetext: The output cannot be written." "$(<"$err")"
     done
     printf 'vars 3\nX\n' >"$file"
-    for arguments in "input -" "pairs -" "tables -" "apart - - -"; do
+    for arguments in "input -" "pairs -" "tables -" "show -" "apart - - -"; do
         # shellcheck disable=SC2086
         run $arguments
         ended "$arguments of a wrong standard input" 2 "" "$(mistake "$file" 2 1 1 "X is not one of the variables of line 1." "X1, X2 or X3 $symbols" |

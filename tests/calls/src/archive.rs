@@ -3,71 +3,8 @@
 use crate::case::{Call, Case, Outcome, Part};
 use crate::expected::state_of;
 use crate::guard::{Framed, Guarded};
-use crate::layout::{RawPart, State};
-use crate::random::Random;
-
-type In = *const u8;
-type Out = *mut u8;
-
-extern "C" {
-    fn sharing_read(table: In, len: usize, out: Out, out_len: usize) -> u32;
-    fn sharing_convert(l: u32, groups: *const u32, len: usize, out: Out, out_len: usize) -> u32;
-    fn sharing_change_side(side: u32, table: In, len: usize, out: Out, out_len: usize) -> u32;
-    fn sharing_equation(
-        side: u32,
-        table: In,
-        len: usize,
-        variable: u32,
-        term: In,
-        term_len: usize,
-        out: Out,
-        out_len: usize,
-    ) -> u32;
-    fn sharing_join(
-        side: u32,
-        first: In,
-        first_len: usize,
-        second: In,
-        second_len: usize,
-        out: Out,
-        out_len: usize,
-    ) -> u32;
-    fn sharing_project(
-        side: u32,
-        table: In,
-        len: usize,
-        keep: u32,
-        out: Out,
-        out_len: usize,
-    ) -> u32;
-    fn sharing_equal(
-        first: In,
-        first_len: usize,
-        second: In,
-        second_len: usize,
-        answer: *mut u32,
-    ) -> u32;
-    fn sharing_ground(side: u32, table: In, len: usize, variable: u32, answer: *mut u32) -> u32;
-    fn sharing_independent(
-        side: u32,
-        table: In,
-        len: usize,
-        first: u32,
-        second: u32,
-        answer: *mut u32,
-    ) -> u32;
-    fn sharing_smaller(
-        positive: In,
-        positive_len: usize,
-        negative: In,
-        negative_len: usize,
-        part: *mut RawPart,
-    );
-    fn sharing_run(side: u32, table: In, len: usize, equations: In, equations_len: usize) -> State;
-    fn sharing_start(side: u32, table: In, len: usize) -> State;
-    fn sharing_step(state: *mut State, variable: u32, term: In, term_len: usize) -> u32;
-    fn sharing_write(state: *const State, out: Out, out_len: usize) -> u32;
-}
+use support::library::*;
+use support::Random;
 
 /// Makes the call. An error says which lent memory the call changed and must not.
 pub fn perform(case: &Case, random: &mut Random) -> Result<Outcome, String> {

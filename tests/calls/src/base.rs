@@ -1,15 +1,11 @@
 //! Accepted calls of each kind, to be made as they are or damaged first.
 
 use crate::case::{Call, Case};
-use crate::equations::Equations;
-use crate::layout::{RawTable, State};
-use crate::random::Random;
-use crate::tables::{form, Size};
 use reference::forms::bytes_of;
-use reference::{Table, ENTRIES};
-
-/// The length of the longest form of a table.
-pub const LONGEST: usize = 4 + 4 * ENTRIES;
+use reference::Table;
+use support::library::{RawTable, State};
+use support::tables::{form, Size, LONGEST};
+use support::{Equations, Random};
 
 /// A call on tables of some size, with an output that is long enough.
 pub fn base(call: Call, negative: bool, size: Size, random: &mut Random) -> Case {

@@ -1,6 +1,6 @@
 //! One call with all that it is given, and what comes of it.
 
-use crate::layout::State;
+use support::library::State;
 
 /// The exported calls.
 #[derive(Clone, Copy, Debug, PartialEq, Eq, PartialOrd, Ord)]

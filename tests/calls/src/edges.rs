@@ -1,15 +1,14 @@
 //! Calls whose lists come to exactly 256 entries, and the same calls with one entry more.
 
-use crate::base::LONGEST;
 use crate::case::{Call, Case};
 use crate::full::{alternate, convert, join, negative_join, run_of, step_of, table_of, Full};
-use crate::random::Random;
-use crate::tables::{form, Size};
-use crate::tester::{Checked, Tester};
+use crate::tester::Tester;
 use crate::{base, expected};
 use reference::forms::bytes_of;
 use reference::terms::head;
 use reference::{Entry, Table, ENTRIES};
+use support::tables::{form, form_entries, Size, LONGEST};
+use support::{Checked, Random};
 
 /// All calls at the limit.
 pub fn check(tester: &mut Tester, full: &Full) -> Checked<()> {
@@ -207,7 +206,7 @@ fn relevant_entries(l: u32, random: &mut Random) -> (Vec<Entry>, usize) {
         entries.extend((0..4).map(|_| fixed(2, random)));
         let case = x1_is_x2(l, entries.clone(), random);
         let outcome = expected::expected(&case);
-        let joined = usize::from(u16::from_le_bytes([outcome.out[2], outcome.out[3]]));
+        let joined = form_entries(&outcome.out);
         if outcome.number == 0 && (12..200).contains(&joined) {
             return (entries, joined);
         }

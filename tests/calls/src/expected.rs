@@ -1,16 +1,16 @@
 //! The outcome of each call by the plain implementation.
 
 use crate::case::{Call, Case, Outcome, Part};
-use crate::layout::State;
-use reference::calls;
+use reference::byte_calls;
 use reference::running::Running;
+use support::library::State;
 
 /// What the call should give.
 pub fn expected(case: &Case) -> Outcome {
     match case.call {
         Call::Smaller => smaller(case),
-        Call::Run => returned(&calls::run(case.side, &case.first, &case.second)),
-        Call::Start => returned(&calls::start(case.side, &case.first)),
+        Call::Run => returned(&byte_calls::run(case.side, &case.first, &case.second)),
+        Call::Start => returned(&byte_calls::start(case.side, &case.first)),
         Call::Step => step(case),
         call if call.asks() => question(case),
         _ => writer(case),
@@ -24,14 +24,14 @@ fn writer(case: &Case) -> Outcome {
     } = case;
     let mut out = case.out.clone();
     let number = match case.call {
-        Call::Read => calls::read(first, &mut out),
-        Call::Convert => calls::convert(*word, &words(first), &mut out),
-        Call::ChangeSide => calls::change_side(*side, first, &mut out),
-        Call::Equation => calls::equation(*side, first, *word, &case.second, &mut out),
-        Call::Join => calls::join(*side, first, &case.second, &mut out),
-        Call::Project => calls::project(*side, first, *word, &mut out),
+        Call::Read => byte_calls::read(first, &mut out),
+        Call::Convert => byte_calls::convert(*word, &words(first), &mut out),
+        Call::ChangeSide => byte_calls::change_side(*side, first, &mut out),
+        Call::Equation => byte_calls::equation(*side, first, *word, &case.second, &mut out),
+        Call::Join => byte_calls::join(*side, first, &case.second, &mut out),
+        Call::Project => byte_calls::project(*side, first, *word, &mut out),
         _ => match state_of(case).running() {
-            Ok(running) => calls::write(&running, &mut out),
+            Ok(running) => byte_calls::write(&running, &mut out),
             Err(refusal) => refusal.number(),
         },
     };
@@ -47,9 +47,9 @@ fn writer(case: &Case) -> Outcome {
 fn question(case: &Case) -> Outcome {
     let mut answer = words(&case.out)[0];
     let number = match case.call {
-        Call::Equal => calls::equal(&case.first, &case.second, &mut answer),
-        Call::Ground => calls::ground(case.side, &case.first, case.word, &mut answer),
-        _ => calls::independent(case.side, &case.first, case.word, case.other, &mut answer),
+        Call::Equal => byte_calls::equal(&case.first, &case.second, &mut answer),
+        Call::Ground => byte_calls::ground(case.side, &case.first, case.word, &mut answer),
+        _ => byte_calls::independent(case.side, &case.first, case.word, case.other, &mut answer),
     };
     Outcome {
         number,
@@ -61,7 +61,7 @@ fn question(case: &Case) -> Outcome {
 
 /// The two-buffer call; the plain one returns a part of one of the same two buffers.
 fn smaller(case: &Case) -> Outcome {
-    let part = calls::smaller(&case.first, &case.second);
+    let part = byte_calls::smaller(&case.first, &case.second);
     let part = match part.len() {
         0 => Part::Empty,
         len if part.as_ptr() == case.first.as_ptr() => Part::First(0, len),
@@ -81,7 +81,7 @@ fn step(case: &Case) -> Outcome {
     let given = *state_of(case);
     match given.running() {
         Ok(mut running) => {
-            let number = calls::step(&mut running, case.word, &case.second);
+            let number = byte_calls::step(&mut running, case.word, &case.second);
             of_state(number, State::of(&running))
         }
         Err(refusal) => of_state(refusal.number(), given),

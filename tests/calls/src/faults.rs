@@ -4,9 +4,10 @@ use crate::base::base_to_damage;
 use crate::case::{Call, Case};
 use crate::expected::expected;
 use crate::full::Full;
-use crate::random::Random;
-use crate::tables::form;
 use crate::{form_faults, term_faults, word_faults};
+use reference::forms::table_length;
+use support::tables::{form, form_entries};
+use support::Random;
 
 /// One of the two tables of a call.
 #[derive(Clone, Copy, Debug, PartialEq, Eq, PartialOrd, Ord)]
@@ -236,7 +237,7 @@ fn make_unlike(l: u32, case: &mut Case, random: &mut Random) {
 fn make_narrow(case: &mut Case, random: &mut Random) {
     let outcome = expected(case);
     let needed = match outcome.number {
-        0 => 4 + 4 * usize::from(u16::from_le_bytes([outcome.out[2], outcome.out[3]])),
+        0 => table_length(form_entries(&outcome.out)),
         _ => 4,
     };
     let nearly = needed - 1;

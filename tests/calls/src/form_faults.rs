@@ -1,9 +1,9 @@
 //! Faults in the form of a table.
 
 use crate::faults::Fault;
-use crate::random::Random;
 use reference::forms::{bytes_of, words_of};
 use reference::ENTRIES;
+use support::Random;
 
 /// Puts a fault into a form that has its sizes and the length that they give, or is longer.
 pub fn put(fault: Fault, bytes: &mut Vec<u8>, random: &mut Random) {

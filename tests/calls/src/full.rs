@@ -1,15 +1,14 @@
 //! Calls that need entry 257.
 
-use crate::base::{any_state, base_on, LONGEST};
+use crate::base::{any_state, base_on};
 use crate::case::{Call, Case};
-use crate::equations::Equations;
 use crate::expected::expected;
-use crate::random::Random;
-use crate::tables::{form, Size};
 use reference::entry::low_bits;
 use reference::forms::{bytes_of, words_of};
 use reference::{Entry, Table, ENTRIES};
 use std::collections::BTreeMap;
+use support::tables::{form, Size, LONGEST};
+use support::{Equations, Random};
 
 /// How many full calls of each kind are found at the start, to be used again and again.
 const FOUND: usize = 12;

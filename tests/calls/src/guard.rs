@@ -1,6 +1,6 @@
 //! Memory that is lent to a call, between bytes that the call must leave as they are.
 
-use crate::random::Random;
+use support::Random;
 
 /// Guard bytes on each side of a buffer; up to seven more before it.
 const GUARD: usize = 24;

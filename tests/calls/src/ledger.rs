@@ -3,9 +3,7 @@
 use crate::case::{Call, Case, Outcome, Part};
 use crate::faults::Fault;
 use std::collections::BTreeMap;
-
-/// The numbers are 0 to 11.
-const NUMBERS: usize = 12;
+use support::answers::{Answers, NUMBERS};
 
 /// A call, and whether its side is the negative one.
 type Row = (Call, bool);
@@ -13,7 +11,7 @@ type Row = (Call, bool);
 /// The counts of one row.
 #[derive(Default)]
 struct Counts {
-    numbers: [usize; NUMBERS],
+    numbers: Answers,
     /// Questions: yes and no. The two-buffer call: part of the first, of the second, empty.
     answers: [usize; 3],
 }
@@ -78,7 +76,7 @@ impl Ledger {
             .rows
             .entry((case.call, case.is_negative()))
             .or_default();
-        counts.numbers[outcome.number as usize] += 1;
+        counts.numbers.enter(outcome.number);
         match outcome.part {
             Part::None if case.call.asks() && outcome.number == 0 => {
                 counts.answers[usize::from(outcome.out[0] == 0)] += 1;
@@ -159,17 +157,8 @@ impl Ledger {
         let mut complaints = Vec::new();
         for row in rows() {
             let counts = self.rows.get(&row).unwrap_or(&none);
-            for (number, &count) in counts.numbers.iter().enumerate() {
-                match (is_possible(row, number), count) {
-                    (true, 0) => {
-                        complaints.push(format!("{}: {number} was never answered", title(row)));
-                    }
-                    (false, 1..) => {
-                        complaints.push(format!("{}: {number} cannot be answered", title(row)));
-                    }
-                    _ => {}
-                }
-            }
+            let wrong = counts.numbers.complaints(possible(row.0, row.1));
+            complaints.extend(wrong.iter().map(|what| format!("{}: {what}", title(row))));
             if counts.answers[..answers(row.0)].contains(&0) {
                 complaints.push(format!("{}: an answer was never given", title(row)));
             }
@@ -187,14 +176,10 @@ fn answers(call: Call) -> usize {
     }
 }
 
-fn is_possible((call, negative): Row, number: usize) -> bool {
-    possible(call, negative).contains(&(number as u32))
-}
-
 /// A count; a dot where the number cannot be answered and was not.
-fn cell(row: Row, number: usize, counts: Option<&Counts>) -> String {
-    match counts.map_or(0, |counts| counts.numbers[number]) {
-        0 if !is_possible(row, number) => format!("{:>8}", "."),
+fn cell((call, negative): Row, number: u32, counts: Option<&Counts>) -> String {
+    match counts.map_or(0, |counts| counts.numbers.count(number)) {
+        0 if !possible(call, negative).contains(&number) => format!("{:>8}", "."),
         count => format!("{count:>8}"),
     }
 }

@@ -8,20 +8,16 @@ mod archive;
 mod base;
 mod case;
 mod edges;
-mod equations;
 mod expected;
 mod faults;
 mod form_faults;
 mod full;
 mod guard;
-mod layout;
 mod ledger;
 mod noise;
 mod pairs;
-mod random;
 mod sequences;
 mod stream;
-mod tables;
 mod term_faults;
 mod tester;
 mod twos;
@@ -29,9 +25,9 @@ mod valid;
 mod word_faults;
 
 use full::Full;
-use random::Random;
 use std::process::ExitCode;
-use tester::{Checked, Mode, Tester};
+use support::{exit_code, Checked, Random};
+use tester::{Mode, Tester};
 
 /// Of so many cases one is written with `--cases`.
 const EVERY: usize = 17;
@@ -39,18 +35,11 @@ const EVERY: usize = 17;
 fn main() -> ExitCode {
     let words: Vec<String> = std::env::args().skip(1).collect();
     let words: Vec<&str> = words.iter().map(String::as_str).collect();
-    let outcome = match words[..] {
+    exit_code(match words[..] {
         [] => compare(),
         ["--cases"] => check_all(&mut Tester::new(Mode::Write(EVERY))),
         _ => Err("usage: calls [--cases]".into()),
-    };
-    match outcome {
-        Ok(()) => ExitCode::SUCCESS,
-        Err(message) => {
-            eprintln!("{message}");
-            ExitCode::FAILURE
-        }
-    }
+    })
 }
 
 /// Makes all calls, and prints the counts.

@@ -3,9 +3,9 @@
 use crate::base::{base, base_to_damage};
 use crate::case::{Call, Case};
 use crate::ledger::rows;
-use crate::random::Random;
-use crate::tables::Size;
-use crate::tester::{Checked, Tester};
+use crate::tester::Tester;
+use support::tables::Size;
+use support::{Checked, Random};
 
 /// How many calls of each kind, for each kind of noise.
 const TIMES: usize = 3000;
@@ -30,54 +30,52 @@ pub fn check(tester: &mut Tester) -> Checked<()> {
 
 /// Replaces all that the call is given by noise.
 fn make_noise(case: &mut Case, random: &mut Random) {
-    case.word = random.small_or_any();
-    case.other = random.small_or_any();
+    case.word = small_or_any(random);
+    case.other = small_or_any(random);
     if case.call != Call::Convert {
-        case.first = random.noise();
+        case.first = noise(random);
     }
-    case.second = random.noise();
+    case.second = noise(random);
     if case.call.writes_form() {
         let len = random.below(80);
         case.out = random.bytes(len);
     }
     if let Some(state) = &mut case.state {
-        state.table.l = random.small_or_any();
+        state.table.l = small_or_any(random);
         state.table.n = random.below(12);
         for k in 0..random.below(12) {
-            state.table.care[k] = random.small_or_any();
+            state.table.care[k] = small_or_any(random);
             state.table.value[k] = state.table.care[k] & random.word();
         }
     }
 }
 
-impl Random {
-    /// A number that is often a valid one.
-    fn small_or_any(&mut self) -> u32 {
-        let any = self.word();
-        let small = self.below(18) as u32;
-        self.pick(&[small, small, small, any])
-    }
+/// A number that is often a valid one.
+fn small_or_any(random: &mut Random) -> u32 {
+    let any = random.word();
+    let small = random.below(18) as u32;
+    random.pick(&[small, small, small, any])
+}
 
-    /// Bytes of any value, often with small sizes in front that may fit the length.
-    fn noise(&mut self) -> Vec<u8> {
-        let n = self.below(6);
-        let any = self.below(40);
-        let len = self.pick(&[4 + 4 * n, 2 * n, any]);
-        let mut bytes = self.bytes(len);
-        if len >= 4 && self.percent(80) {
-            bytes[..4].copy_from_slice(&[self.below(18) as u8, 0, n as u8, 0]);
-        }
-        if self.percent(50) {
-            // Small numbers in the high bytes, so that fewer words have a bit above l.
-            let high = self.pick(&[0, 0, 0x80]);
-            bytes
-                .iter_mut()
-                .skip(5)
-                .step_by(2)
-                .for_each(|byte| *byte &= high);
-        }
-        bytes
+/// Bytes of any value, often with small sizes in front that may fit the length.
+fn noise(random: &mut Random) -> Vec<u8> {
+    let n = random.below(6);
+    let any = random.below(40);
+    let len = random.pick(&[4 + 4 * n, 2 * n, any]);
+    let mut bytes = random.bytes(len);
+    if len >= 4 && random.percent(80) {
+        bytes[..4].copy_from_slice(&[random.below(18) as u8, 0, n as u8, 0]);
     }
+    if random.percent(50) {
+        // Small numbers in the high bytes, so that fewer words have a bit above l.
+        let high = random.pick(&[0, 0, 0x80]);
+        bytes
+            .iter_mut()
+            .skip(5)
+            .step_by(2)
+            .for_each(|byte| *byte &= high);
+    }
+    bytes
 }
 
 /// Changes one bit or byte of an input, its length, or one number.

@@ -4,8 +4,8 @@ use crate::case::{Call, Outcome, Part};
 use crate::faults::{damaged, faults_of, Fault};
 use crate::full::Full;
 use crate::ledger::rows;
-use crate::random::Random;
-use crate::tester::{Checked, Tester};
+use crate::tester::Tester;
+use support::{Checked, Random};
 
 /// How often each fault stands alone, and each two together.
 const ALONE: usize = 200;

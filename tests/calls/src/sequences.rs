@@ -1,15 +1,15 @@
 //! Sequences of calls: what one call leaves is what the next one gets.
 
-use crate::base::{base_on, LONGEST};
+use crate::base::base_on;
 use crate::case::{Call, Case, Outcome};
 use crate::faults::Fault;
 use crate::full::{table_of, Full};
-use crate::layout::State;
-use crate::random::Random;
-use crate::tables::{form, Size};
-use crate::tester::{Checked, Tester};
+use crate::tester::Tester;
 use crate::{term_faults, word_faults};
-use reference::forms::bytes_of;
+use reference::forms::{bytes_of, table_length};
+use support::library::State;
+use support::tables::{form, form_entries, Size, LONGEST};
+use support::{Checked, Random};
 
 /// Running analyses, chains of calls on bytes, and runs beside steps.
 pub fn check(tester: &mut Tester, full: &Full) -> Checked<()> {
@@ -145,8 +145,8 @@ fn chain(tester: &mut Tester, negative: bool, size: Size, random: &mut Random) -
         let outcome = tester.check(&case)?;
         if outcome.number == 0 {
             negative ^= call == Call::ChangeSide;
-            let n = usize::from(u16::from_le_bytes([outcome.out[2], outcome.out[3]]));
-            bytes = outcome.out[..4 + 4 * n].to_vec();
+            let length = table_length(form_entries(&outcome.out));
+            bytes = outcome.out[..length].to_vec();
         }
         ask(tester, negative, &bytes, random)?;
     }

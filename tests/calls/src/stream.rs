@@ -2,8 +2,8 @@
 //! byte first; each row of bytes is preceded by its length.
 
 use crate::case::{Case, Outcome, Part};
-use crate::layout::State;
 use std::io::{self, Write};
+use support::library::State;
 
 /// Writes one case and its expected outcome.
 pub fn write(case: &Case, outcome: &Outcome) -> io::Result<()> {

@@ -1,65 +1,62 @@
 //! Faults in a term and in the form of equations.
 
-use crate::equations::Equations;
 use crate::faults::Fault;
-use crate::random::Random;
 use reference::forms::{bytes_of, words_of, EQUATIONS};
 use reference::terms::{arity, head, is_head, TOKENS};
+use support::{Equations, Random};
 
-impl Random {
-    /// A variable token that is not one of X1 to Xl.
-    fn no_token(&mut self, l: u32) -> u16 {
-        let any = l as u16 + 1 + self.below(0x7fff - l as usize) as u16;
-        self.pick(&[0, 0, l as u16 + 1, 0x7fff, any])
-    }
+/// A variable token that is not one of X1 to Xl.
+fn no_token(l: u32, random: &mut Random) -> u16 {
+    let any = l as u16 + 1 + random.below(0x7fff - l as usize) as u16;
+    random.pick(&[0, 0, l as u16 + 1, 0x7fff, any])
+}
 
-    /// A left variable of a form that is not one of X1 to Xl; it may have the top bit.
-    fn no_left(&mut self, l: u32) -> u16 {
-        let token = self.no_token(l);
-        let topped = 0x8000 | self.variable(l);
-        self.pick(&[token, topped, u16::MAX])
-    }
+/// A left variable of a form that is not one of X1 to Xl; it may have the top bit.
+fn no_left(l: u32, random: &mut Random) -> u16 {
+    let token = no_token(l, random);
+    let topped = 0x8000 | random.variable(l);
+    random.pick(&[token, topped, u16::MAX])
+}
 
-    /// A term with more than 1024 tokens, now and then with more than 16 bits can count.
-    fn long_term(&mut self, l: u32) -> Vec<u16> {
-        let size = self.pick(&[TOKENS + 1, TOKENS + 2, 1500]);
-        let mut term = self.term_of(l, size);
-        if self.percent(1) {
-            term.resize(0x10000 + 1, head(0, 1));
-            term.push(1);
-        }
-        term
+/// A term with more than 1024 tokens, now and then with more than 16 bits can count.
+fn long_term(l: u32, random: &mut Random) -> Vec<u16> {
+    let size = random.pick(&[TOKENS + 1, TOKENS + 2, 1500]);
+    let mut term = random.term_of(l, size);
+    if random.percent(1) {
+        term.resize(0x10000 + 1, head(0, 1));
+        term.push(1);
     }
+    term
+}
 
-    /// Makes tokens end within the term: one head asks for an argument more.
-    fn make_part(&mut self, tokens: &mut [u16]) {
-        let heads = tokens.iter().enumerate();
-        let heads = heads.filter(|(_, &token)| is_head(token) && arity(token) < 15);
-        let places: Vec<usize> = heads.map(|(place, _)| place).collect();
-        match places.len() {
-            0 => tokens[tokens.len() - 1] = head(self.word() as u16, 15),
-            _ => tokens[self.pick(&places)] += 1,
-        }
+/// Makes tokens end within the term: one head asks for an argument more.
+fn make_part(tokens: &mut [u16], random: &mut Random) {
+    let heads = tokens.iter().enumerate();
+    let heads = heads.filter(|(_, &token)| is_head(token) && arity(token) < 15);
+    let places: Vec<usize> = heads.map(|(place, _)| place).collect();
+    match places.len() {
+        0 => tokens[tokens.len() - 1] = head(random.word() as u16, 15),
+        _ => tokens[random.pick(&places)] += 1,
     }
+}
 
-    /// Tokens that may follow a term and should not.
-    fn rest(&mut self, l: u32) -> Vec<u16> {
-        let size = self.within(1, 3);
-        self.term_of(l, size)
-    }
+/// Tokens that may follow a term and should not.
+fn rest(l: u32, random: &mut Random) -> Vec<u16> {
+    let size = random.within(1, 3);
+    random.term_of(l, size)
 }
 
 /// Puts a fault into the bytes of a term.
 pub fn put(fault: Fault, l: u32, bytes: &mut Vec<u8>, random: &mut Random) {
     let mut tokens = words_of(bytes);
     match fault {
-        Fault::TermLong => tokens = random.long_term(l),
+        Fault::TermLong => tokens = long_term(l, random),
         Fault::TermToken => {
             let place = random.below(tokens.len());
-            tokens[place] = random.no_token(l);
+            tokens[place] = no_token(l, random);
         }
-        Fault::TermPart => random.make_part(&mut tokens),
-        Fault::TermRest => tokens.extend(random.rest(l)),
+        Fault::TermPart => make_part(&mut tokens, random),
+        Fault::TermRest => tokens.extend(rest(l, random)),
         Fault::TermNone => tokens.clear(),
         _ => {}
     }
@@ -116,14 +113,14 @@ fn put_in_one(fault: Fault, l: u32, equations: &mut Equations, random: &mut Rand
     let term = equations.term(k);
     let mut tokens = equations.tokens[term.clone()].to_vec();
     match fault {
-        Fault::EquationLeft => equations.lefts[k] = random.no_left(l),
-        Fault::EquationToken if tokens.is_empty() => tokens.push(random.no_token(l)),
+        Fault::EquationLeft => equations.lefts[k] = no_left(l, random),
+        Fault::EquationToken if tokens.is_empty() => tokens.push(no_token(l, random)),
         Fault::EquationToken => {
             let place = random.below(tokens.len());
-            tokens[place] = random.no_token(l);
+            tokens[place] = no_token(l, random);
         }
-        Fault::EquationPart => random.make_part(&mut tokens),
-        Fault::EquationRest => tokens.extend(random.rest(l)),
+        Fault::EquationPart => make_part(&mut tokens, random),
+        Fault::EquationRest => tokens.extend(rest(l, random)),
         Fault::EquationNone => tokens.clear(),
         _ => return make_sum(k, l, equations, random),
     }

@@ -3,14 +3,11 @@
 use crate::archive::perform;
 use crate::case::{Call, Case, Outcome};
 use crate::expected::expected;
-use crate::layout::State;
 use crate::ledger::Ledger;
-use crate::random::Random;
 use crate::stream;
 use std::fmt::Write as _;
-
-/// What ends a run of this program: a message for the reader.
-pub type Checked<T> = Result<T, String>;
+use support::library::State;
+use support::{Checked, Random};
 
 /// What is done with a case.
 pub enum Mode {

@@ -1,9 +1,9 @@
 //! The two-buffer call: which part of which buffer it hands back.
 
 use crate::case::{Call, Case};
-use crate::random::Random;
-use crate::tables::form;
-use crate::tester::{Checked, Tester};
+use crate::tester::Tester;
+use support::tables::form;
+use support::{Checked, Random};
 
 /// Forms with tails, in both orders: fewer, equal and more entries, one l and two.
 pub fn check(tester: &mut Tester) -> Checked<()> {
@@ -16,11 +16,11 @@ pub fn check(tester: &mut Tester) -> Checked<()> {
         } else {
             random.within(1, 16) as u32
         };
-        let n = random.count();
+        let n = count(&mut random);
         let m = if random.percent(30) {
             n
         } else {
-            random.count()
+            count(&mut random)
         };
         case.first = form(&random.table(l, n));
         case.second = form(&random.table(other, m));
@@ -36,12 +36,10 @@ pub fn check(tester: &mut Tester) -> Checked<()> {
     Ok(())
 }
 
-impl Random {
-    /// A count, mostly a small one, so that equal ones and neighbours meet often.
-    fn count(&mut self) -> usize {
-        let (few, any) = (self.below(5), self.below(257));
-        self.pick(&[few, few, few, few, any, 256])
-    }
+/// A count, mostly a small one, so that equal ones and neighbours meet often.
+fn count(random: &mut Random) -> usize {
+    let (few, any) = (random.below(5), random.below(257));
+    random.pick(&[few, few, few, few, any, 256])
 }
 
 /// Bytes after a form; some of them would be further entries.

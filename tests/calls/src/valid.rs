@@ -1,12 +1,13 @@
 //! Accepted calls on tables of all widths and counts, and outputs of every length around the
 //! one that is needed.
 
-use crate::base::{base, LONGEST};
+use crate::base::base;
 use crate::case::{Call, Case};
 use crate::ledger::rows;
-use crate::random::Random;
-use crate::tables::Size;
-use crate::tester::{Checked, Tester};
+use crate::tester::Tester;
+use reference::forms::table_length;
+use support::tables::{form_entries, Size, LONGEST};
+use support::{Checked, Random};
 
 /// How many calls of each kind on tables of each size: those that take long are fewer.
 fn times(call: Call, negative: bool, size: Size) -> usize {
@@ -61,7 +62,7 @@ pub fn check_lengths(tester: &mut Tester) -> Checked<()> {
 fn outputs(tester: &mut Tester, mut case: Case, random: &mut Random) -> Checked<()> {
     let outcome = tester.check(&case)?;
     let needed = match outcome.number {
-        0 => 4 + 4 * usize::from(u16::from_le_bytes([outcome.out[2], outcome.out[3]])),
+        0 => table_length(form_entries(&outcome.out)),
         _ => 4,
     };
     let near = needed.saturating_sub(6)..needed + 7;

@@ -2,48 +2,45 @@
 
 use crate::case::Case;
 use crate::faults::Fault;
-use crate::layout::RawTable;
-use crate::random::Random;
 use reference::entry::low_bits;
 use reference::ENTRIES;
+use support::library::RawTable;
+use support::Random;
 
-impl Random {
-    /// A variable that is not one of X1 to Xl. Some of them are one of those in their low 15 or
-    /// 16 bits.
-    fn no_variable(&mut self, l: u32) -> u32 {
-        let some = self.within(1, l as usize) as u32;
-        let above = l + 1 + self.below(1000) as u32;
-        self.pick(&[0, l + 1, above, 0x8000 | some, 0x10000 | some, u32::MAX])
-    }
+/// A variable that is not one of X1 to Xl. Some of them are one of those in their low 15 or 16 bits.
+fn no_variable(l: u32, random: &mut Random) -> u32 {
+    let some = random.within(1, l as usize) as u32;
+    let above = l + 1 + random.below(1000) as u32;
+    random.pick(&[0, l + 1, above, 0x8000 | some, 0x10000 | some, u32::MAX])
+}
 
-    /// A word with bits above l.
-    fn above(&mut self, l: u32) -> u32 {
-        let any = self.word();
-        let bits = self.pick(&[1 << l, 1 << 16, 1 << 31, any, u32::MAX]) & !low_bits(l);
-        bits.max(1 << l)
-    }
+/// A word with bits above l.
+fn bits_above(l: u32, random: &mut Random) -> u32 {
+    let any = random.word();
+    let bits = random.pick(&[1 << l, 1 << 16, 1 << 31, any, u32::MAX]) & !low_bits(l);
+    bits.max(1 << l)
+}
 
-    /// A width outside 1 to 16.
-    fn no_width(&mut self, l: u32) -> u32 {
-        self.pick(&[0, 0, 17, 17, 32, 0x100 + l, 0x10000 + l, u32::MAX])
-    }
+/// A width outside 1 to 16.
+fn no_width(l: u32, random: &mut Random) -> u32 {
+    random.pick(&[0, 0, 17, 17, 32, 0x100 + l, 0x10000 + l, u32::MAX])
 }
 
 /// Puts a fault into the numbers of a call on tables of l variables.
 pub fn put(fault: Fault, l: u32, case: &mut Case, random: &mut Random) {
     match fault {
-        Fault::Variable => case.word = random.no_variable(l),
+        Fault::Variable => case.word = no_variable(l, random),
         Fault::Set => {
-            let (above, set) = (random.above(l) | random.set(l), random.set(l));
+            let (above, set) = (bits_above(l, random) | random.set(l), random.set(l));
             (case.word, case.other) = random.pick(&[(above, set), (set, above), (above, above)]);
         }
         Fault::Keep => {
-            let above = random.above(l) | random.set(l);
+            let above = bits_above(l, random) | random.set(l);
             case.word = random.pick(&[0, above]);
         }
-        Fault::ConvertWidth => case.word = random.no_width(l),
+        Fault::ConvertWidth => case.word = no_width(l, random),
         _ => {
-            let (set, above) = (random.set(l), random.above(l));
+            let (set, above) = (random.set(l), bits_above(l, random));
             let word = (set | above).to_le_bytes();
             let place = 4 * random.below(case.first.len() / 4 + 1);
             case.first.splice(place..place, word);
@@ -55,7 +52,7 @@ pub fn put(fault: Fault, l: u32, case: &mut Case, random: &mut Random) {
 pub fn put_in_table(fault: Fault, l: u32, table: &mut RawTable, random: &mut Random) {
     let n = table.n;
     match fault {
-        Fault::StateWidth => table.l = random.no_width(l),
+        Fault::StateWidth => table.l = no_width(l, random),
         Fault::StateCount => {
             let wrapped = [1 << 16 | n, 1 << 32 | n, 1 << 63 | n, usize::MAX];
             table.n = random.pick(&[&[ENTRIES + 1; 3], &wrapped[..]].concat());
@@ -64,8 +61,8 @@ pub fn put_in_table(fault: Fault, l: u32, table: &mut RawTable, random: &mut Ran
             let k = random.below(n.min(ENTRIES));
             let bit = 1 << random.below(l as usize);
             match random.below(3) {
-                0 => table.care[k] |= random.above(l),
-                1 => table.value[k] |= random.above(l),
+                0 => table.care[k] |= bits_above(l, random),
+                1 => table.value[k] |= bits_above(l, random),
                 _ => (table.care[k], table.value[k]) = (table.care[k] & !bit, bit),
             }
         }

@@ -3,12 +3,13 @@
 //! An input is written as decimal 16-bit words between blanks; `#` starts a comment that ends with
 //! the line. A line `bytes N` cuts the input to N bytes, or fills it up with zero bytes.
 
-use crate::tester::{difference, Checked, Tester};
+use crate::tester::{difference, Tester};
 use reference::forms::bytes_of;
 use reference::report;
 use std::collections::BTreeMap;
 use std::fs;
 use std::path::Path;
+use support::Checked;
 
 /// A stored case.
 pub struct Case {

@@ -1,7 +1,7 @@
 //! Ways to damage an input.
 
 use crate::inputs::Input;
-use crate::random::Random;
+use support::Random;
 
 /// The largest l, n, e and m.
 const LIMITS: [u16; 4] = [16, 256, 64, 1024];

@@ -2,12 +2,12 @@
 //! text.
 
 use crate::damage::damage;
-use crate::inputs::Input;
-use crate::random::Random;
-use crate::tables::Size;
+use crate::inputs::{crowded_input, input, long_input, small_input, Input};
 use crate::tally::Tally;
-use crate::tester::{Checked, Tester};
+use crate::tester::Tester;
 use reference::report;
+use support::tables::Size;
+use support::{Checked, Random};
 
 /// How many inputs are drawn.
 const INPUTS: usize = 4000;
@@ -32,11 +32,11 @@ pub fn check(tester: &mut Tester) -> Checked<usize> {
 /// One input: some are whole, most are damaged once or twice.
 pub fn draw(random: &mut Random) -> Input {
     match random.below(100) {
-        0..=19 => random.input(Size::Light),
-        20..=27 => random.input(Size::Wide),
-        28..=31 => random.input(Size::Any),
-        32..=41 => random.crowded_input(),
-        42..=46 => random.long_input(),
+        0..=19 => input(Size::Light, random),
+        20..=27 => input(Size::Wide, random),
+        28..=31 => input(Size::Any, random),
+        32..=41 => crowded_input(random),
+        42..=46 => long_input(random),
         _ => damaged(random),
     }
 }
@@ -45,10 +45,10 @@ pub fn draw(random: &mut Random) -> Input {
 /// changes nothing.
 fn damaged(random: &mut Random) -> Input {
     let mut input = match random.below(20) {
-        0 => random.input(Size::Any),
-        1 => random.long_input(),
-        2..=4 => random.input(Size::Wide),
-        _ => random.small_input(),
+        0 => input(Size::Any, random),
+        1 => long_input(random),
+        2..=4 => input(Size::Wide, random),
+        _ => small_input(random),
     };
     for _ in 0..random.pick(&[1, 1, 1, 2, 2, 3]) {
         damage(&mut input, random);

@@ -2,15 +2,14 @@
 
 use crate::cases::Case;
 use crate::drawn::draw;
-use crate::equations::Equations;
 use crate::inputs::Input;
 use crate::program::{Drain, Feed};
-use crate::random::Random;
-use crate::tester::{Checked, Tester};
+use crate::tester::Tester;
 use reference::terms::head;
 use reference::{report, Entry, Table};
 use std::fmt::Write as _;
 use std::time::Duration;
+use support::{Checked, Equations, Random};
 
 /// How many bytes come at a time.
 const SIZES: [usize; 5] = [1, 2, 3, 7, 1000];

@@ -12,37 +12,18 @@ mod program;
 mod tally;
 mod tester;
 
-// The generators of tests/calls, which uses more of them.
-#[allow(dead_code)]
-#[path = "../../calls/src/equations.rs"]
-mod equations;
-#[allow(dead_code)]
-#[path = "../../calls/src/random.rs"]
-mod random;
-#[allow(dead_code)]
-#[path = "../../calls/src/tables.rs"]
-mod tables;
-
 use program::Program;
 use std::path::Path;
 use std::process::ExitCode;
-use tester::{Checked, Tester};
+use support::{exit_code, Checked};
+use tester::Tester;
 
 fn main() -> ExitCode {
-    match check_all() {
-        Ok(line) => {
-            println!("{line}");
-            ExitCode::SUCCESS
-        }
-        Err(message) => {
-            eprintln!("{message}");
-            ExitCode::FAILURE
-        }
-    }
+    exit_code(check_all())
 }
 
-/// All tests; the line that says how much was compared.
-fn check_all() -> Checked<String> {
+/// All tests, and the line that says how much was compared.
+fn check_all() -> Checked<()> {
     let here = Path::new(env!("CARGO_MANIFEST_DIR"));
     let mut tester = Tester::new(Program::find(&here.join("../../target/bin/sharerun"))?);
     let cases = cases::read_folder(&here.join("cases"))?;
@@ -50,9 +31,10 @@ fn check_all() -> Checked<String> {
     let inputs = drawn::check(&mut tester)?;
     let before = tester.runs;
     feeding::check(&mut tester, &cases)?;
-    Ok(format!(
+    println!(
         "sharerun: {} stored cases, {inputs} inputs, {} runs fed in other ways, 0 differences",
         cases.len(),
         tester.runs - before
-    ))
+    );
+    Ok(())
 }

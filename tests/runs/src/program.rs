@@ -1,6 +1,5 @@
 //! The program under test, the ways in which its input comes and those in which its text is read.
 
-use crate::tester::Checked;
 use std::fs::{self, File};
 use std::io::{self, ErrorKind, Read, Write};
 use std::path::{Path, PathBuf};
@@ -8,6 +7,7 @@ use std::process::{Child, ChildStdout, Command, Stdio};
 use std::sync::mpsc;
 use std::thread;
 use std::time::Duration;
+use support::Checked;
 
 /// The variable that names the program.
 const VARIABLE: &str = "SHARERUN";

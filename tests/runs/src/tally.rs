@@ -2,6 +2,7 @@
 
 use reference::report::Report;
 use reference::VARIABLES;
+use support::Answers;
 
 /// The words of 01 for the refusals 1 to 8.
 const WORDS: [&str; 8] = [
@@ -12,7 +13,7 @@ const WORDS: [&str; 8] = [
 #[derive(Default)]
 pub struct Tally {
     /// By number; 0 is an accepted run.
-    numbers: [usize; 9],
+    numbers: Answers,
     /// Full runs that had an accepted equation.
     later: usize,
     /// Accepted runs with at least one equation.
@@ -26,7 +27,7 @@ impl Tally {
     /// Counts one report.
     pub fn enter(&mut self, report: &Report) {
         let outcome = &report.outcome;
-        self.numbers[outcome.code as usize] += 1;
+        self.numbers.enter(outcome.code);
         let applied = usize::from(outcome.applied > 0);
         match outcome.code {
             0 => {
@@ -49,10 +50,10 @@ impl Tally {
         } = self;
         println!(
             "accepted          {:>5}, {applied} with equations",
-            numbers[0]
+            numbers.count(0)
         );
         for (word, number) in WORDS.iter().zip(1..) {
-            let count = numbers[number];
+            let count = numbers.count(number);
             let more = match number {
                 8 => format!(", {later} after an accepted equation"),
                 _ => String::new(),
@@ -62,14 +63,9 @@ impl Tally {
         println!("longest text      {:>5} bytes", self.longest);
     }
 
-    /// What never occurred and should have: an empty list where all did.
+    /// What never occurred and should have, or cannot: an empty list where all is as it should be.
     pub fn complaints(&self) -> Vec<String> {
-        let mut complaints = Vec::new();
-        for (word, number) in WORDS.iter().zip(1..) {
-            if self.numbers[number] == 0 {
-                complaints.push(format!("{number} ({word}) was never answered"));
-            }
-        }
+        let mut complaints = self.numbers.complaints(&[0, 1, 2, 3, 4, 5, 6, 7, 8]);
         if self.widths.count_ones() != VARIABLES {
             complaints.push("some width was never accepted".into());
         }

@@ -3,9 +3,7 @@
 use crate::program::{Drain, Feed, Program};
 use reference::forms::words_of;
 use std::fmt::Write as _;
-
-/// What ends a run of these tests: a message for the reader.
-pub type Checked<T> = Result<T, String>;
+use support::Checked;
 
 /// Compares texts and counts the runs.
 pub struct Tester {

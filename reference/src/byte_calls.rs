@@ -1,11 +1,11 @@
 //! The calls on byte buffers. Each returns 0 where accepted, else the number of the refusal,
 //! and a refused call writes nothing. Side 0 is positive, any other number negative.
 
-use crate::forms::{read_table, read_table_prefix, read_tokens, write_table};
+use crate::forms::{read_front, read_table, read_tokens, write_table};
+use crate::operations;
 use crate::questions;
 use crate::refusal::{number_of, Refusal};
 use crate::table::{Side, Table};
-use crate::values;
 
 pub use crate::running::{run, start, step, write};
 
@@ -34,13 +34,13 @@ pub fn read(table: &[u8], out: &mut [u8]) -> u32 {
 
 /// Converts groups to a positive table.
 pub fn convert(l: u32, groups: &[u32], out: &mut [u8]) -> u32 {
-    hand_back(values::convert(l, groups), out)
+    hand_back(operations::convert(l, groups), out)
 }
 
 /// Changes the side of a table; the rule is the same from either side.
 pub fn change_side(_side: u32, table: &[u8], out: &mut [u8]) -> u32 {
     hand_back(
-        read_table(table).and_then(|table| values::change_side(&table)),
+        read_table(table).and_then(|table| operations::change_side(&table)),
         out,
     )
 }
@@ -49,7 +49,7 @@ pub fn change_side(_side: u32, table: &[u8], out: &mut [u8]) -> u32 {
 pub fn equation(side: u32, table: &[u8], variable: u32, term: &[u8], out: &mut [u8]) -> u32 {
     let outcome = read_table(table).and_then(|table| {
         let tokens = read_tokens(term)?;
-        values::equation(Side::of_number(side), &table, variable, &tokens)
+        operations::equation(Side::of_number(side), &table, variable, &tokens)
     });
     hand_back(outcome, out)
 }
@@ -57,14 +57,14 @@ pub fn equation(side: u32, table: &[u8], variable: u32, term: &[u8], out: &mut [
 /// Joins two tables of one side.
 pub fn join(side: u32, first: &[u8], second: &[u8], out: &mut [u8]) -> u32 {
     let outcome = read_two(first, second)
-        .and_then(|(first, second)| values::join(Side::of_number(side), &first, &second));
+        .and_then(|(first, second)| operations::join(Side::of_number(side), &first, &second));
     hand_back(outcome, out)
 }
 
 /// Projects a table onto a set of variables.
 pub fn project(side: u32, table: &[u8], keep: u32, out: &mut [u8]) -> u32 {
-    let outcome =
-        read_table(table).and_then(|table| values::projection(Side::of_number(side), &table, keep));
+    let outcome = read_table(table)
+        .and_then(|table| operations::projection(Side::of_number(side), &table, keep));
     hand_back(outcome, out)
 }
 
@@ -107,6 +107,6 @@ pub fn smaller<'a>(positive: &'a [u8], negative: &'a [u8]) -> &'a [u8] {
 
 /// The l and the part of the buffer that its form takes up; its length goes by the n written.
 fn read_form(buffer: &[u8]) -> Result<(u32, &[u8]), Refusal> {
-    let (table, rest) = read_table_prefix(buffer)?;
+    let (table, rest) = read_front(buffer)?;
     Ok((table.l, &buffer[..buffer.len() - rest.len()]))
 }

@@ -1,14 +1,21 @@
-//! Links the verified side, libanalyser.a, from the folder that SHARING_LIB_DIR names.
+//! Links the verified side, libanalyser.a, from the folder that SHARING_LIB_DIR names. Without the
+//! feature `library` nothing is linked, and no folder is needed.
 
 use std::path::{Path, PathBuf};
 use std::process::ExitCode;
 
 const VARIABLE: &str = "SHARING_LIB_DIR";
+
+const LIBRARY: &str = "analyser";
+
 const ARCHIVE: &str = "libanalyser.a";
 
 fn main() -> ExitCode {
     println!("cargo:rerun-if-env-changed={VARIABLE}");
     println!("cargo:rerun-if-changed=build.rs");
+    if !cfg!(feature = "library") {
+        return ExitCode::SUCCESS;
+    }
     match archive_folder() {
         Ok(folder) => {
             link(&folder);
@@ -37,7 +44,7 @@ fn archive_folder() -> Result<PathBuf, String> {
 
 /// Tells cargo what to link, and to link again where the archive is built anew.
 fn link(folder: &Path) {
-    println!("cargo:rerun-if-changed={}", folder.join(ARCHIVE).display());
     println!("cargo:rustc-link-search=native={}", folder.display());
-    println!("cargo:rustc-link-lib=static=analyser");
+    println!("cargo:rerun-if-changed={}", folder.join(ARCHIVE).display());
+    println!("cargo:rustc-link-lib=static={LIBRARY}");
 }

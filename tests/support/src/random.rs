@@ -10,6 +10,12 @@ impl Random {
         Random(seed.wrapping_mul(0x9E37_79B9_7F4A_7C15) | 1)
     }
 
+    /// A generator that starts from the given state, which must not be 0: the benchmark's seeds are
+    /// states.
+    pub fn from_state(state: u64) -> Random {
+        Random(state)
+    }
+
     /// The next 32 bits: the upper half, since the lower bits are the weaker ones.
     pub fn word(&mut self) -> u32 {
         self.0 ^= self.0 >> 12;
@@ -18,7 +24,7 @@ impl Random {
         (self.0.wrapping_mul(0x2545_F491_4F6C_DD1D) >> 32) as u32
     }
 
-    /// A number below the limit, which is not 0.
+    /// A number below the limit, which is not 0, by scaling; uneven only by one part in 2^32 / limit.
     pub fn below(&mut self, limit: usize) -> usize {
         ((u64::from(self.word()) * limit as u64) >> 32) as usize
     }

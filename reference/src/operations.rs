@@ -2,9 +2,9 @@
 //! The refused caller still has the table that it gave. The questions are in `questions`.
 
 use crate::entry::low_bits;
+use crate::equations;
 use crate::growth;
 use crate::refusal::Refusal;
-use crate::sharing;
 use crate::sides;
 use crate::table::{check_width, Side, Table};
 use crate::terms::{check_single_equation, variables};
@@ -31,7 +31,7 @@ pub fn change_side(table: &Table) -> Result<Table, Refusal> {
 pub fn equation(side: Side, table: &Table, variable: u32, term: &[u16]) -> Result<Table, Refusal> {
     table.check()?;
     check_single_equation(table.l, variable, term)?;
-    let entries = sharing::equation(side, table.l, &table.entries, variable, variables(term))?;
+    let entries = equations::equation(side, table.l, &table.entries, variable, variables(term))?;
     Ok(Table {
         l: table.l,
         entries,

@@ -1,4 +1,4 @@
-//! Valid tables of all widths and counts.
+//! Valid tables of all widths and counts, and their forms.
 
 use crate::random::Random;
 use reference::entry::low_bits;
@@ -93,6 +93,14 @@ impl Random {
         let few = some & self.word();
         self.pick(&[0, one, one, some, few, low_bits(l)])
     }
+}
+
+/// The length of the longest form of a table.
+pub const LONGEST: usize = 4 + 4 * ENTRIES;
+
+/// The entries that a form says it has.
+pub fn form_entries(form: &[u8]) -> usize {
+    usize::from(u16::from_le_bytes([form[2], form[3]]))
 }
 
 /// The form of a table as it stands.

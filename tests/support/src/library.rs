@@ -1,4 +1,5 @@
-//! The structs of the C interface, and the running state of the plain side in that layout.
+//! The C interface, as include/sharing.h has it, and the running state of the plain side in its
+//! layout.
 
 use reference::{Entry, Refusal, Running, Table, ENTRIES};
 
@@ -28,6 +29,79 @@ pub struct State {
 pub struct RawPart {
     pub ptr: *const u8,
     pub len: usize,
+}
+
+/// Bytes that a call reads.
+pub type In = *const u8;
+/// Bytes that a call writes.
+pub type Out = *mut u8;
+
+extern "C" {
+    pub fn sharing_read(table: In, len: usize, out: Out, out_len: usize) -> u32;
+    pub fn sharing_convert(l: u32, groups: *const u32, len: usize, out: Out, out_len: usize)
+        -> u32;
+    pub fn sharing_change_side(side: u32, table: In, len: usize, out: Out, out_len: usize) -> u32;
+    pub fn sharing_equation(
+        side: u32,
+        table: In,
+        len: usize,
+        variable: u32,
+        term: In,
+        term_len: usize,
+        out: Out,
+        out_len: usize,
+    ) -> u32;
+    pub fn sharing_join(
+        side: u32,
+        first: In,
+        first_len: usize,
+        second: In,
+        second_len: usize,
+        out: Out,
+        out_len: usize,
+    ) -> u32;
+    pub fn sharing_project(
+        side: u32,
+        table: In,
+        len: usize,
+        keep: u32,
+        out: Out,
+        out_len: usize,
+    ) -> u32;
+    pub fn sharing_equal(
+        first: In,
+        first_len: usize,
+        second: In,
+        second_len: usize,
+        answer: *mut u32,
+    ) -> u32;
+    pub fn sharing_ground(side: u32, table: In, len: usize, variable: u32, answer: *mut u32)
+        -> u32;
+    pub fn sharing_independent(
+        side: u32,
+        table: In,
+        len: usize,
+        first: u32,
+        second: u32,
+        answer: *mut u32,
+    ) -> u32;
+    pub fn sharing_smaller(
+        positive: In,
+        positive_len: usize,
+        negative: In,
+        negative_len: usize,
+        part: *mut RawPart,
+    );
+    pub fn sharing_run(
+        side: u32,
+        table: In,
+        len: usize,
+        equations: In,
+        equations_len: usize,
+    ) -> State;
+    pub fn sharing_start(side: u32, table: In, len: usize) -> State;
+    pub fn sharing_step(state: *mut State, variable: u32, term: In, term_len: usize) -> u32;
+    pub fn sharing_write(state: *const State, out: Out, out_len: usize) -> u32;
 }
 
 impl RawTable {

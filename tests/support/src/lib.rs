@@ -1,0 +1,28 @@
+//! What the tests and the benchmark share.
+
+pub mod answers;
+pub mod equations;
+#[cfg(feature = "library")]
+pub mod library;
+pub mod random;
+pub mod tables;
+
+pub use answers::Answers;
+pub use equations::Equations;
+pub use random::Random;
+
+use std::process::ExitCode;
+
+/// What ends a program: a message for the reader where something failed.
+pub type Checked<T> = Result<T, String>;
+
+/// How a program ends, after the message of a failure.
+pub fn exit_code(outcome: Checked<()>) -> ExitCode {
+    match outcome {
+        Ok(()) => ExitCode::SUCCESS,
+        Err(message) => {
+            eprintln!("{message}");
+            ExitCode::FAILURE
+        }
+    }
+}
