@@ -3,14 +3,6 @@
 
 #include <string.h>
 
-/* A point of a file: the table after its first equations, `after` in number. */
-typedef struct {
-    const rules *given;
-    size_t after;
-    size_t len;
-    uint8_t form[SHARING_MAX_FORM];
-} point;
-
 /* Output that did not arrive is an error, whatever the answer was. */
 int finish(int status) {
     if (fflush(stdout) == 0 && !ferror(stdout))
@@ -44,7 +36,7 @@ static void put_variables(FILE *to, const rules *given, uint32_t set) {
         if ((set >> i & 1) == 0)
             continue;
         fputs(first ? "" : ", ", to);
-        put_piece(to, i < given->named ? given->variable[i] : from_text("_"));
+        put_piece(to, variable_name(given, i));
         first = false;
     }
 }
@@ -77,8 +69,21 @@ static void put_absent(FILE *to, const rules *given) {
               : " are in no group at the start: they count as known", to);
 }
 
+/* The heading of what is known at a point. */
+void put_heading(const char *what, const point *at) {
+    const rules *given = at->given;
+    printf("%s ", what);
+    put_point(stdout, given, at->after);
+    if (given->absent != 0) {
+        fputs(" (", stdout);
+        put_absent(stdout, given);
+        putchar(')');
+    }
+    putchar(':');
+}
+
 /* The 16-bit number at index i of a form. */
-static uint32_t word_at(const uint8_t *form, size_t i) {
+uint32_t word_at(const uint8_t *form, size_t i) {
     return (uint32_t)form[2 * i] | (uint32_t)form[2 * i + 1] << 8;
 }
 
@@ -130,7 +135,7 @@ static void tell_full(const point *before) {
 }
 
 /* Runs the first equations, `after` in number. A full one, or a refusal, is said. */
-static bool reach(const rules *given, size_t after, point *out) {
+bool reach(const rules *given, size_t after, point *out) {
     uint8_t table[SHARING_MAX_FORM], equations[MOST_EQUATIONS_FORM];
     size_t table_len = write_table(given, table);
     size_t equations_len = write_equations(given, after, equations);
@@ -279,14 +284,8 @@ int tables(const rules *given) {
         point at;
         if (!reach(given, after, &at))
             return finish(STATUS_WRONG);
-        fputs("Table ", stdout);
-        put_point(stdout, given, after);
-        if (given->absent != 0) {
-            fputs(" (", stdout);
-            put_absent(stdout, given);
-            putchar(')');
-        }
-        fputs(":\n", stdout);
+        put_heading("Table", &at);
+        putchar('\n');
         put_table(stdout, &at);
     }
     return finish(STATUS_YES);

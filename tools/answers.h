@@ -4,12 +4,25 @@
 
 #include "rules.h"
 
+/* A point of a file: the table after its first equations, `after` in number. */
+typedef struct {
+    const rules *given;
+    size_t after;
+    size_t len;
+    uint8_t form[SHARING_MAX_FORM];
+} point;
+
 int finish(int status);
 rules *open_rules(const char *path);
+
+bool reach(const rules *given, size_t after, point *out);
+uint32_t word_at(const uint8_t *form, size_t i);
+void put_heading(const char *what, const point *at);
 
 int apart(const rules *given, char *const goals[2], size_t after);
 int pairs(const rules *given, size_t after);
 int tables(const rules *given);
+int show(const rules *given);
 
 void explain_number(FILE *to, uint32_t number);
 int explain(void);

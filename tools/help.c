@@ -10,6 +10,7 @@ void print_usage(FILE *to) {
           "       sharetext apart FILE GOAL GOAL [--after N]\n"
           "       sharetext pairs FILE [--after N]\n"
           "       sharetext tables FILE\n"
+          "       sharetext show FILE\n"
           "       sharetext --help\n", to);
 #ifdef SHARING_VERSION_MAJOR
     fputs("       sharetext --version\n", to);
@@ -30,6 +31,11 @@ static const char *const commands =
     "  tables FILE            the table before the first equation and after each one: its\n"
     "                         entries, with the variables at 1 and perhaps those at *, and\n"
     "                         which variables are known\n"
+    "  show FILE              the groups that the entries of each of these tables cover, a row\n"
+    "                         each, with x in the column of each variable of the group: those of\n"
+    "                         fewer variables first, those of as many in the order of their\n"
+    "                         variables. Of a table 64 groups are shown, then how many more there\n"
+    "                         are\n"
     "  help, --help           this text\n"
 #ifdef SHARING_VERSION_MAJOR
     "  --version              the version\n"

@@ -12,6 +12,11 @@ void free_rules(rules *given) {
 
 /* ---- Variables */
 
+/* The name of the variable at position i, from 0. */
+piece variable_name(const rules *given, size_t i) {
+    return i < given->named ? given->variable[i] : from_text("_");
+}
+
 /* The number of a variable of the line vars, from 1. */
 bool find_variable(const rules *given, piece name, uint32_t *number) {
     for (size_t i = 0; i < given->named; i++)

@@ -52,6 +52,7 @@ void *need(void *memory);
 rules *read_rules(const char *path);
 void free_rules(rules *given);
 
+piece variable_name(const rules *given, size_t i);
 bool find_variable(const rules *given, piece name, uint32_t *number);
 void expected_variables(const rules *given, const char *more);
 void tell_unknown(const rules *given, const place *where, piece name);

@@ -6,10 +6,11 @@
  *     reader.c    the reader of a file, line by line; terms.c reads its terms
  *     rules.c     what was read, and its written forms
  *     answers.c   what the library answers of it, in words
+ *     groups.c    the groups of its tables, as rows of marks
  *     explain.c   the refusals of sharerun in words
  *
- * Every answer is the library's. This program reads, and writes an entry for each variable that the
- * file calls free and for each _.
+ * Every answer is the library's. This program reads, writes an entry for each variable that the
+ * file calls free and for each _, and lists the groups that the library's entries cover.
  */
 #include "answers.h"
 #include "help.h"
@@ -68,7 +69,7 @@ static int input(const rules *given) {
     return finish(STATUS_YES);
 }
 
-typedef enum { INPUT, EXPLAIN, APART, PAIRS, TABLES, COMMANDS } command;
+typedef enum { INPUT, EXPLAIN, APART, PAIRS, TABLES, SHOW, COMMANDS } command;
 
 static const struct {
     const char *name;
@@ -78,7 +79,8 @@ static const struct {
                         [EXPLAIN] = {"explain", 0, false},
                         [APART] = {"apart", 3, true},
                         [PAIRS] = {"pairs", 1, true},
-                        [TABLES] = {"tables", 1, false}};
+                        [TABLES] = {"tables", 1, false},
+                        [SHOW] = {"show", 1, false}};
 
 /* Does what a command does with a file that was read. */
 static int run_on(command c, const rules *given, const arguments *got) {
@@ -89,7 +91,9 @@ static int run_on(command c, const rules *given, const arguments *got) {
         return input(given);
     if (c == APART)
         return apart(given, got->plain + 1, after);
-    return c == PAIRS ? pairs(given, after) : tables(given);
+    if (c == PAIRS)
+        return pairs(given, after);
+    return c == TABLES ? tables(given) : show(given);
 }
 
 /* Does what a command does, with its arguments. */
