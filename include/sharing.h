@@ -179,8 +179,9 @@ uint32_t sharing_convert(uint32_t l, const uint32_t *groups, size_t groups_len, 
                          size_t out_len);
 
 /*
- * Changes a table to the other side; it stands for the same groups there. Tables that cover the
- * same strings, the all-zero one counted too, change to the same entries, perhaps in another order.
+ * Changes a table to the other side; it stands for the same groups there. Where tables that cover
+ * the same strings, the all-zero one counted too, are both accepted, they change to the same
+ * entries, perhaps in another order.
  * Reads table, of the side given. Writes the form of the other side to out.
  * Refusals in order: TABLE FORM; 8; 9.
  * After a refusal: out is as it was.

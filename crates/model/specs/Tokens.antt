@@ -25,10 +25,11 @@ is-variable t = ltb t first-head
 abbrev pub named : ℕ → ℕ → Bool
 named l t = ltb 0 t && leb t l
 
--- The arities that bits 0 to 3 can say, and the symbols that bits 4 to 14 can.
+-- How many arities bits 0 to 3 can say.
 abbrev pub arities : ℕ
 arities = 16
 
+-- How many symbols bits 4 to 14 can say.
 abbrev pub symbols : ℕ
 symbols = 2048
 
