@@ -5,11 +5,21 @@ use Prim.Native.Nat.{ℕ}
 use Rattle.tables.specs.declared.Answered.{Answered}
 use Rattle.questions.specs.declared.Reply.{Reply}
 use Rattle.questions.specs.Replies.{reply-number, reply-word}
-use Rattle.byte_calls.specs.Outputs.{output-number, output-bytes}
+use Rattle.forms.specs.declared.Layout.{Layout}
+use Rattle.forms.specs.declared.Layout.the-variants.{Plain}
+use Rattle.byte_calls.specs.Outputs.{output-number-as, output-bytes-as, output-number, output-bytes}
+
+pub output-same-as : (f : Layout) (out : List ℕ) {a a′ : Answered} {r : ℕ} {out′ : List ℕ} → a ≡ a′
+    → r ≡ output-number-as f a out → out′ ≡ output-bytes-as f a out
+    → (r ≡ output-number-as f a′ out) × (out′ ≡ output-bytes-as f a′ out)
+output-same-as f out e n b = (
+  n ∙ ap (λ (x : Answered). output-number-as f x out) e,
+  b ∙ ap (λ (x : Answered). output-bytes-as f x out) e,
+)
 
 pub output-same : (out : List ℕ) {a a′ : Answered} {r : ℕ} {out′ : List ℕ} → a ≡ a′ → r ≡ output-number a out
     → out′ ≡ output-bytes a out → (r ≡ output-number a′ out) × (out′ ≡ output-bytes a′ out)
-output-same out e n b = (n ∙ ap (λ (x : Answered). output-number x out) e, b ∙ ap (λ (x : Answered). output-bytes x out) e)
+output-same = output-same-as Plain
 
 pub reply-same : (word : ℕ) {a a′ : Reply} {r word′ : ℕ} → a ≡ a′ → r ≡ reply-number a → word′ ≡ reply-word a word
     → (r ≡ reply-number a′) × (word′ ≡ reply-word a′ word)

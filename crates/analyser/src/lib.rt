@@ -1,15 +1,17 @@
 // The analyser for C: every call of include/sharing.h. Each returns 0 where it is accepted, else the number of the refusal; after
 // a refusal every byte that was lent holds what it held. A side is a number: 0 is positive, any other negative.
 use forms::Extent;
+use forms::Layout;
 use running::Running;
 ghost use mathlib.Core.Path.{_≡_};
 ghost use Rattle.operations.specs.Operations.{side-numbered, convert-call};
 ghost use Rattle.forms.specs.declared.Extent.the-variants.{Whole};
-ghost use Rattle.forms.specs.TableForms.{read-table};
+ghost use Rattle.forms.specs.declared.Layout.the-variants.{Packed};
+ghost use Rattle.forms.specs.TableForms.{read-table, read-packed};
 ghost use Rattle.byte_calls.specs.ByteCalls.{change-side-bytes, equation-bytes, join-bytes, projection-bytes, equal-bytes};
 ghost use Rattle.byte_calls.specs.ByteCalls.{ground-bytes, independent-bytes};
 ghost use Rattle.questions.specs.Replies.{reply-number, reply-word};
-ghost use Rattle.byte_calls.specs.Outputs.{output-number, output-bytes};
+ghost use Rattle.byte_calls.specs.Outputs.{output-number-as, output-bytes-as, output-number, output-bytes};
 ghost use Rattle.byte_calls.specs.BufferParts.{lent, smaller-part};
 ghost use Rattle.running.specs.States.{started, step-number, advanced, run-state, state-number, state-bytes};
 
@@ -20,6 +22,26 @@ pub extern "C" fn sharing_read(table: &[u8], out: &mut [u8]) -> u32
     ensures bytes { λ r. ⌜ now (out .exit) ≡ output-bytes (read-table Whole (now (table .entry))) (now (out .entry)) ⌝ }
 {
     byte_calls::outputs::write(forms::read_table(Extent::Whole, table), out)
+}
+
+// Reads a plain form and writes the packed one.
+#[no_mangle]
+pub extern "C" fn sharing_pack(table: &[u8], out: &mut [u8]) -> u32
+    ensures number { λ r. ⌜ r ≡ output-number-as Packed (read-table Whole (now (table .entry))) (now (out .entry)) ⌝ }
+    ensures bytes { λ r. ⌜
+        now (out .exit) ≡ output-bytes-as Packed (read-table Whole (now (table .entry))) (now (out .entry))
+        ⌝ }
+{
+    byte_calls::outputs::write_as(Layout::Packed, forms::read_table(Extent::Whole, table), out)
+}
+
+// Reads a packed form and writes the plain one.
+#[no_mangle]
+pub extern "C" fn sharing_unpack(packed: &[u8], out: &mut [u8]) -> u32
+    ensures number { λ r. ⌜ r ≡ output-number (read-packed (now (packed .entry))) (now (out .entry)) ⌝ }
+    ensures bytes { λ r. ⌜ now (out .exit) ≡ output-bytes (read-packed (now (packed .entry))) (now (out .entry)) ⌝ }
+{
+    byte_calls::outputs::write(forms::read_packed(packed), out)
 }
 
 // Converts groups, bit i - 1 for Xi, to a positive table.

@@ -11,6 +11,7 @@ use Rattle.tables.specs.declared.Answer.the-variants.{Accepted, Refused}
 use Rattle.tables.specs.declared.Answered.{Answered}
 use Rattle.tables.specs.Refusals.{if-accepted}
 use Rattle.tables.specs.Values.{accepts}
+use Rattle.forms.specs.declared.Layout.the-variants.{Plain}
 use Rattle.forms.specs.declared.Extent.the-variants.{Front}
 use Rattle.forms.specs.TableForms.{sized, second-size, table-length, fits, read-table}
 use Rattle.forms.proofs.Tests.{reads-passed}
@@ -22,7 +23,7 @@ pub front-room : (b : List ℕ) {a : Answered} → a ≡ read-table Front b → 
 unfolding sized fits
 front-room b {a} read e =
     let is : a ≡ accepts (a .table) = λ i. record { answer = e i; table = a .table } in
-    let p = reads-passed Front b (accepts (a .table)) refl (sym read ∙ is) .0 in
+    let p = reads-passed Plain Front b (accepts (a .table)) refl (sym read ∙ is) .0 in
     (leb-true 4 (length b) (p .sizes), leb-true (table-length (second-size b)) (length b) (p .long))
 
 module _ (p q : Part) {a b : Answered} (ea : a ≡ read-table Front (p .bytes)) (eb : b ≡ read-table Front (q .bytes)) where

@@ -1,24 +1,33 @@
 // How the table or the reply of a call on byte buffers is handed back, and the two-buffer call. Inner: not a public call.
 use forms::Extent;
+use forms::Layout;
 use questions::Reply;
 use tables::Answer;
 use tables::Answered;
 ghost use mathlib.Core.Path.{_≡_};
 ghost use Rattle.questions.specs.Replies.{reply-number, reply-word};
-ghost use Rattle.byte_calls.specs.Outputs.{output-number, output-bytes};
+ghost use Rattle.byte_calls.specs.Outputs.{output-number-as, output-bytes-as, output-number, output-bytes};
 ghost use Rattle.byte_calls.specs.BufferParts.{lent, smaller-part};
 
-// Writes the table of an accepted call: 9 where the output is too short. The number of the answer.
-pub fn write(a: Answered, out: &mut [u8]) -> u32
-    ensures number { λ r. ⌜ r ≡ output-number a (now (out .entry)) ⌝ }
-    ensures bytes { λ r. ⌜ now (out .exit) ≡ output-bytes a (now (out .entry)) ⌝ }
+// Writes the table of an accepted call, plain or packed: 9 where the output is too short. The number of the answer.
+pub fn write_as(layout: Layout, a: Answered, out: &mut [u8]) -> u32
+    ensures number { λ r. ⌜ r ≡ output-number-as layout a (now (out .entry)) ⌝ }
+    ensures bytes { λ r. ⌜ now (out .exit) ≡ output-bytes-as layout a (now (out .entry)) ⌝ }
 {
     let answer = a.answer;
     let t = a.table;
     match answer {
         Answer::Refused(r) => tables::refusal_number(r),
-        Answer::Accepted => tables::answer_number(forms::write_table(t, out)),
+        Answer::Accepted => tables::answer_number(forms::write(layout, t, out)),
     }
+}
+
+// Writes the plain form of the table of an accepted call.
+pub fn write(a: Answered, out: &mut [u8]) -> u32
+    ensures number { λ r. ⌜ r ≡ output-number a (now (out .entry)) ⌝ }
+    ensures bytes { λ r. ⌜ now (out .exit) ≡ output-bytes a (now (out .entry)) ⌝ }
+{
+    write_as(Layout::Plain, a, out)
 }
 
 // Writes 1 for yes and 0 for no; nothing where the question is refused. The number of the answer.

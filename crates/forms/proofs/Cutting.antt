@@ -15,12 +15,16 @@ use Rattle.terms.specs.Checks.{most-tokens}
 use Rattle.codec.specs.Numbers.{numbers, sum}
 use Rattle.forms.specs.declared.Extent.{Extent}
 use Rattle.forms.specs.declared.Extent.the-variants.{Whole, Front}
-use Rattle.forms.specs.TableForms.{sized, first-size, second-size, table-length, fits, written-entries}
-use Rattle.forms.specs.TableForms.{read-entries, read-sized, read-table}
+use Rattle.forms.specs.declared.Layout.{Layout}
+use Rattle.forms.specs.declared.Layout.the-variants.{Plain, Packed}
+use Rattle.forms.specs.TableForms.{sized, first-size, second-size, form-length, fits}
+use Rattle.forms.specs.TableForms.{written-entries, all-well, read-entries, read-sized, read-form}
 use Rattle.forms.specs.EquationForms.{most-equations, equations-length, equations-of, check-sized}
 use Rattle.forms.specs.EquationForms.{share-out, check-each, check-equations}
 use Rattle.forms.specs.TableForms.{Passed}
+use Rattle.packing.specs.Packing.{row-length}
 use Rattle.forms.proofs.Rows.{numbers-within}
+use Rattle.forms.proofs.PackedRows.{rows-within}
 use Rattle.forms.proofs.Tests.{grown-table, reads-passed, equations-passed}
 
 -- ---- The sizes at the front
@@ -52,18 +56,18 @@ torn-by false a torn f = refl
 -- ---- Tables
 
 -- what an accepted whole form has passed
-whole-passed : (b : List ℕ) (t : Table) → read-table Whole b ≡ accepts t
-    → Passed Whole b × (grown-table b ≡ accepts t) × (table-length (second-size b) ≡ length b)
+whole-passed : (f : Layout) (b : List ℕ) (t : Table) → read-form f Whole b ≡ accepts t
+    → Passed f Whole b × (grown-table f b ≡ accepts t) × (form-length f (first-size b) (second-size b) ≡ length b)
 unfolding fits
-whole-passed b t e =
-    let p = reads-passed Whole b (accepts t) refl e in
-    (p .0, p .1, eqb-true (table-length (second-size b)) (length b) (p .0 .long))
+whole-passed f b t e =
+    let p = reads-passed f Whole b (accepts t) refl e in
+    (p .0, p .1, eqb-true (form-length f (first-size b) (second-size b)) (length b) (p .0 .long))
 
 -- the sizes of b, and a length that does not fit them
-torn : {y : Extent} {b : List ℕ} → Passed y b → (x : Extent) (c : List ℕ) → (sized c ≡ true → Sizes c b)
-    → fits x (table-length (second-size b)) (length c) ≡ false
-    → read-table x c ≡ refuses R.Torn zero-table
-unfolding read-table read-sized
+torn : {f : Layout} {y : Extent} {b : List ℕ} → Passed f y b → (x : Extent) (c : List ℕ) → (sized c ≡ true → Sizes c b)
+    → fits x (form-length f (first-size b) (second-size b)) (length c) ≡ false
+    → read-form f x c ≡ refuses R.Torn zero-table
+unfolding read-form read-sized
 torn p x c same bad = torn-by (sized c) _ _ (λ s. rw (same s .0, same s .1, p .width, p .few, bad))
 
 too-short : (x : Extent) (length room : ℕ) → room < length → fits x length room ≡ false
@@ -72,38 +76,52 @@ too-short Whole length room h = ne-eqb length room (λ e. omega arith)
 too-short Front length room h = lt-leb length room h
 
 -- A table cut short anywhere is torn, whether more bytes may follow or not.
-pub table-cut : (x : Extent) (b : List ℕ) (t : Table) (k : ℕ) → read-table Whole b ≡ accepts t → k < length b
-    → read-table x (take k b) ≡ refuses R.Torn zero-table
-table-cut x b t k e h =
-    let p = whole-passed b t e in
+pub table-cut : (f : Layout) (x : Extent) (b : List ℕ) (t : Table) (k : ℕ) → read-form f Whole b ≡ accepts t → k < length b
+    → read-form f x (take k b) ≡ refuses R.Torn zero-table
+table-cut f x b t k e h =
+    let p = whole-passed f b t e in
     torn (p .0) x (take k b) (cut-sizes b k) (too-short x _ _ (omega (arith, p .2, length-take k b)))
 
 -- A table with bytes after it is torn, where it is to be all the bytes.
-pub table-longer : (b : List ℕ) (t : Table) → read-table Whole b ≡ accepts t → (y : ℕ) (c : List ℕ)
-    → read-table Whole (b ++ (y ∷ c)) ≡ refuses R.Torn zero-table
+pub table-longer : (f : Layout) (b : List ℕ) (t : Table) → read-form f Whole b ≡ accepts t → (y : ℕ) (c : List ℕ)
+    → read-form f Whole (b ++ (y ∷ c)) ≡ refuses R.Torn zero-table
 unfolding fits
-table-longer b t e y c =
-    let p = whole-passed b t e in
+table-longer f b t e y c =
+    let p = whole-passed f b t e in
     torn (p .0) Whole (b ++ (y ∷ c)) (λ s. longer-sizes b (y ∷ c) (p .0 .sizes))
-    (ne-eqb (table-length (second-size b)) (length (b ++ (y ∷ c))) (λ q. omega (arith, p .2, length-append b (y ∷ c))))
+    (ne-eqb (form-length f (first-size b) (second-size b)) (length (b ++ (y ∷ c)))
+    (λ q. omega (arith, p .2, length-append b (y ∷ c))))
+
+-- bytes that follow a form are not looked at
+followed : (f : Layout) (l n : ℕ) (b c : List ℕ) → form-length f l n ≤ length b
+    → (written-entries f l n (b ++ c) ≡ written-entries f l n b) × (all-well f l n (b ++ c) ≡ all-well f l n b)
+unfolding written-entries all-well
+followed Plain l n b c room =
+    let cs = numbers-within 4 n b c (omega arith) in
+    let vs = numbers-within (4 + 2 * n) n b c (omega arith) in
+    (rw (cs, vs), rw (cs, vs))
+followed Packed l n b c room = let rs = rows-within 4 (row-length l) n b c room in (rw rs, rw rs)
 
 -- A table with bytes after it is read as the table alone, where more may follow.
-pub table-followed : (b : List ℕ) (t : Table) → read-table Whole b ≡ accepts t → (c : List ℕ)
-    → read-table Front (b ++ c) ≡ accepts t
-unfolding read-table read-sized read-entries written-entries sized fits
-table-followed b t e c =
-    let p = whole-passed b t e in
+pub table-followed : (f : Layout) (b : List ℕ) (t : Table) → read-form f Whole b ≡ accepts t → (c : List ℕ)
+    → read-form f Front (b ++ c) ≡ accepts t
+unfolding read-form read-sized read-entries sized fits
+table-followed f b t e c =
+    let p = whole-passed f b t e in
+    let l = first-size b in
     let n = second-size b in
     let same = longer-sizes b c (p .0 .sizes) in
+    let here = followed f l n b c (omega (arith, p .2)) in
+    let long : 4 ≤ length (b ++ c) = omega (arith, leb-true 4 (length b) (p .0 .sizes), length-append b c) in
     rw (
-      le-leb 4 (length (b ++ c)) (omega (arith, p .2, length-append b c)),
+      le-leb 4 (length (b ++ c)) long,
       same .0,
       same .1,
       p .0 .width,
       p .0 .few,
-      le-leb (table-length n) (length (b ++ c)) (omega (arith, p .2, length-append b c)),
-      numbers-within 4 n b c (omega (arith, p .2)),
-      numbers-within (4 + 2 * n) n b c (omega (arith, p .2)),
+      le-leb (form-length f l n) (length (b ++ c)) (omega (arith, p .2, length-append b c)),
+      here .0,
+      here .1,
       p .0 .clean,
     )
     (p .1)

@@ -1,24 +1,31 @@
 -- The words that a reader fills hold the entries that are written. Assumes nothing.
 use mathlib.Core.Path.{_≡_, refl, sym, ap, subst, _∙_}
-use mathlib.Core.Bool.{true}
-use mathlib.Core.List.{List, [], _∷_}
-use Prim.Native.Nat.{ℕ, zero, suc, _+_, _*_, _≤_, _<_}
-use native.Mathlib.Nat.{zero-add}
+use mathlib.Core.Bool.{Bool, true, false, false≢true, _&&_, and-assoc, and-true}
+use mathlib.Core.List.{List, [], _∷_, map}
+use Prim.Native.Nat.{ℕ, zero, suc, _+_, _-_, _*_, _≤_, _<_}
+use native.Mathlib.Nat.{zero-add, zero-mul, suc-mul}
+use native.Mathlib.Numerals.{add-one}
 use native.Mathlib.Omega.{arith}
-use lib.ListN.{length, getD, drop}
+use lib.ListN.{length, getD, take, drop, length-map, length-drop, List·getD-map}
+use lib.Seq.{length-take-le, take-nil, drop-drop}
 use Rattle.model.specs.Growth.{limit}
 use Rattle.words.specs.declared.Entry.{Entry}
-use Rattle.words.specs.Words.{string, word, word-of}
+use Rattle.words.specs.Words.{entry, string, word, word-of}
 use Rattle.words.proofs.Words.{word-of-entry}
 use Rattle.tables.specs.Lists.{pairs, strings}
 use Rattle.tables.specs.Values.{clean, entry-at, all-clean}
 use Rattle.tables.proofs.Checking.{all-at, clean-is}
 use Rattle.lists.specs.WorkingLists.{Holds}
+use Rattle.packing.specs.declared.Unpacked.{Unpacked}
+use Rattle.packing.specs.Packing.{row-length, row-positions, unpacked, good-row, unpacked-row}
 use Rattle.codec.specs.Numbers.{number-at}
 use Rattle.codec.proofs.Laws.{length-numbers}
-use Rattle.forms.specs.TableForms.{cares, values, written-entries}
+use Rattle.forms.specs.declared.Layout.the-variants.{Plain, Packed}
+use Rattle.forms.specs.TableForms.{form-length, cares, values, rows, packed-rows, all-good}
+use Rattle.forms.specs.TableForms.{written-entries, all-well}
 use Rattle.forms.proofs.Reading.{entries-wide}
 use Rattle.forms.proofs.Rows.{row-number}
+use Rattle.forms.proofs.PackedRows.{rows-count, rows-at, rows-from}
 
 -- ---- The strings of two rows
 
@@ -53,11 +60,11 @@ module _ (n : ℕ) (b : List ℕ) where
   entry-read i lt ec ev = rw (ec, ev, row-number n 4 i b lt, row-number n (4 + 2 * n) i b lt)
 
   -- the words of clean entries hold them
-  pub words-hold : (l : ℕ) (row : List ℕ) → l ≤ 32 → n ≤ limit → length row ≡ limit
-      → ((i : ℕ) → i < n → getD row i 0 ≡ word-of (written-at i)) → all-clean l n (cares n b) (values n b) ≡ true
-      → Holds l row n (written-entries l n b)
-  unfolding all-clean written-entries
-  words-hold l row short few room at good =
+  pub words-hold : (l : ℕ) (row : List ℕ) → l ≤ 32 → n ≤ limit → form-length Plain l n ≤ length b → length row ≡ limit
+      → ((i : ℕ) → i < n → getD row i 0 ≡ word-of (written-at i)) → all-well Plain l n b ≡ true
+      → Holds l row n (written-entries Plain l n b)
+  unfolding all-well all-clean written-entries
+  words-hold l row short few long room at good =
       let cs = length-numbers n (drop 4 b) in
       let vs = length-numbers n (drop (4 + 2 * n) b) in
       let count = strings-count l (cares n b) (values n b) n cs vs in
@@ -69,6 +76,94 @@ module _ (n : ℕ) (b : List ℕ) where
             ∙ ap word (sym (strings-at l (cares n b) (values n b) n i cs vs lt));
         room = room;
         count = count;
-        good = record { wide = entries-wide l n b; few = omega (arith, few, count) };
+        good = record { wide = entries-wide Plain l n b long; few = omega (arith, few, count) };
+        short = short;
+      }
+
+-- ---- Packed rows
+
+-- What unpacking a row has told.
+pub row-told : (l : ℕ) (row : List ℕ) {u : Unpacked} → u ≡ unpacked-row l row
+    → (u .good ≡ good-row l row) × (u .good ≡ true → u .entry ≡ entry (unpacked l row))
+unfolding unpacked-row
+row-told l row {u = u} e = go (good-row l row) refl
+  where
+    go : (g : Bool) → good-row l row ≡ g → (u .good ≡ good-row l row) × (u .good ≡ true → u .entry ≡ entry (unpacked l row))
+    go true h = (rw (e, h), λ good. rw (e, h))
+    go false h = (rw (e, h), λ good. absurd (false≢true (rw (e, h) at good)))
+
+module _ (l n : ℕ) (b : List ℕ) where
+  -- The row at an index.
+  abbrev pub row-at : ℕ → List ℕ
+  row-at i = take (row-length l) (drop (4 + i * row-length l) b)
+
+  -- as the code takes it
+  pub row-part : {k : ℕ} (i : ℕ) → k ≡ row-length l → take (4 + i * k + k - (4 + i * k)) (drop (4 + i * k) b) ≡ row-at i
+  row-part {k} i e =
+      let d : 4 + i * k + k - (4 + i * k) ≡ k = omega arith in
+      ap (λ (j : ℕ). take j (drop (4 + i * k) b)) d ∙ rw e
+
+  -- and its length
+  pub part-length : {k : ℕ} (i : ℕ) → k ≡ row-length l → 4 + i * k + k ≤ length b
+      → length (take (4 + i * k + k - (4 + i * k)) (drop (4 + i * k) b)) ≡ row-length l
+  part-length {k} i e h =
+      let d : 4 + i * k + k - (4 + i * k) ≡ k = omega arith in
+      let at = 4 + i * k in
+      rw d (length-take-le k (drop at b) (omega (arith, h, length-drop at b)) ∙ e)
+
+  -- the rows from an index on
+  abbrev pub rows-on : ℕ → List (List ℕ)
+  rows-on i = rows (row-length l) (n - i) (drop (4 + i * row-length l) b)
+
+  -- at the start they are all
+  pub rows-start : all-well Packed l n b ≡ all-good l (rows-on 0)
+  unfolding all-well
+  rows-start =
+      let k : ℕ = row-length l in
+      let e : 4 + 0 * k ≡ 4 = rw (zero-mul k) in
+      let m : n - 0 ≡ n = omega arith in
+      rw (e, m)
+
+  -- a turn: one more row was tested
+  pub rows-tested : (i : ℕ) (good : Bool) → i < n → all-well Packed l n b ≡ (good && all-good l (rows-on i))
+      → all-well Packed l n b ≡ ((good && good-row l (row-at i)) && all-good l (rows-on (i + 1)))
+  unfolding all-good
+  rows-tested i good lt e =
+      let k : ℕ = row-length l in
+      let m : n - i ≡ suc (n - (i + 1)) = omega arith in
+      let at : 4 + i * k + k ≡ 4 + (i + 1) * k = rw (add-one i, suc-mul i k) (omega arith) in
+      let here : rows-on i ≡ row-at i ∷ rows-on (i + 1) =
+      ap (λ (j : ℕ). rows k j (drop (4 + i * k) b)) m ∙ rows-from k (n - (i + 1)) (4 + i * k) b
+      ∙ ap (λ (j : ℕ). row-at i ∷ rows k (n - (i + 1)) (drop j b)) at in
+      e ∙ ap (λ (rs : List (List ℕ)). good && all-good l rs) here
+      ∙ sym (and-assoc good (good-row l (row-at i)) (all-good l (rows-on (i + 1))))
+
+  -- at the end all were
+  pub rows-ended : (i : ℕ) (good : Bool) → i ≡ n → all-well Packed l n b ≡ (good && all-good l (rows-on i))
+      → all-well Packed l n b ≡ good
+  unfolding all-good rows
+  rows-ended i good end e =
+      let m : n - i ≡ 0 = omega (arith, end) in
+      e ∙ ap (λ (j : ℕ). good && all-good l (rows (row-length l) j (drop (4 + i * row-length l) b))) m ∙ and-true good
+
+  -- the words of good rows hold the entries
+  pub rows-hold : (row : List ℕ) → l ≤ 32 → n ≤ limit → form-length Packed l n ≤ length b → length row ≡ limit
+      → ((i : ℕ) → i < n → getD row i 0 ≡ word (unpacked l (row-at i)))
+      → Holds l row n (written-entries Packed l n b)
+  unfolding written-entries row-positions
+  rows-hold row short few long room at =
+      let k : ℕ = row-length l in
+      let rs = packed-rows l n b in
+      let count : n ≡ length (map (unpacked l) rs) = sym (length-map rs (unpacked l) ∙ rows-count k n (drop 4 b)) in
+      record {
+        here = λ i lt.
+            let there : getD rs i [] ≡ row-at i =
+            rows-at k n i (drop 4 b) lt ∙ ap (take k) (drop-drop (i * k) 4 b) in
+            at i lt
+            ∙ ap word (ap (unpacked l) (sym there) ∙ sym (List·getD-map (unpacked l) rs i [])
+            ∙ ap (getD (map (unpacked l) rs) i) (take-nil l));
+        room = room;
+        count = count;
+        good = record { wide = entries-wide Packed l n b long; few = omega (arith, few, count) };
         short = short;
       }

@@ -1,5 +1,6 @@
 pub mod Outcomes
 pub mod Rows
+pub mod PackedRows
 pub mod Cursors
 pub mod EachEquation
 pub mod Tests

@@ -13,34 +13,41 @@ use Rattle.tables.specs.declared.Answer.{Answer}
 use Rattle.tables.specs.declared.Answer.the-variants.{Refused}
 use Rattle.tables.specs.declared.Answered.{Answered}
 use Rattle.tables.specs.Refusals.{member, one-of, Numbered}
-use Rattle.tables.specs.Values.{good-width, all-clean}
+use Rattle.tables.specs.Values.{good-width}
 use Rattle.tables.proofs.Numbers.{within, one-of-more, refused-numbered, accepted-numbered, test-numbered, answered-numbered}
 use Rattle.terms.specs.Checks.{Outcome, reads, refuses, if-read, check-equation, most-tokens}
 use Rattle.terms.proofs.Checking.{equation-numbers}
 use Rattle.codec.specs.Numbers.{sum}
 use Rattle.forms.specs.declared.Extent.{Extent}
-use Rattle.forms.specs.TableForms.{sized, first-size, second-size, table-length, fits, cares, values, read-entries}
-use Rattle.forms.specs.TableForms.{read-sized, read-table}
+use Rattle.forms.specs.declared.Layout.{Layout}
+use Rattle.forms.specs.declared.Layout.the-variants.{Plain, Packed}
+use Rattle.forms.specs.TableForms.{sized, first-size, second-size, form-length, fits, all-well, bad-entry, form-numbers}
+use Rattle.forms.specs.TableForms.{read-entries, read-sized, read-form}
 use Rattle.forms.specs.EquationForms.{Written, most-equations, equations-length, counts, equations-of}
 use Rattle.forms.specs.EquationForms.{check-each, check-sized, check-equations}
 use Rattle.forms.proofs.Reading.{entries-grow}
 
--- Reading a table refuses by 1, 2, 3 or 4, so never by 8.
-pub read-numbers : (x : Extent) (b : List ℕ) → Numbered (1 ∷ 2 ∷ 3 ∷ 4 ∷ []) (read-table x b .answer)
-unfolding read-table read-sized read-entries one-of member
-read-numbers x b =
-    let ns : List ℕ = 1 ∷ 2 ∷ 3 ∷ 4 ∷ [] in
+bad-numbered : (f : Layout) → T (one-of (form-numbers f) (bad-entry f))
+unfolding one-of member
+bad-numbered Plain = tt
+bad-numbered Packed = tt
+
+-- Reading a table refuses by no other.
+pub read-numbers : (f : Layout) (x : Extent) (b : List ℕ) → Numbered (form-numbers f) (read-form f x b .answer)
+unfolding read-form read-sized read-entries one-of member
+read-numbers f x b =
+    let ns : List ℕ = form-numbers f in
     let l = first-size b in
     let n = second-size b in
     answered-numbered ns (sized b) _ _
     (λ s. answered-numbered ns (good-width l) _ _
     (λ w. answered-numbered ns (leb n limit) _ _
-    (λ f. answered-numbered ns (fits x (table-length n) (length b)) _ _
-    (λ h. answered-numbered ns (all-clean l n (cares n b) (values n b)) _ _
+    (λ m. answered-numbered ns (fits x (form-length f l n) (length b)) _ _
+    (λ h. answered-numbered ns (all-well f l n b) _ _
     (λ c.
-    let g = entries-grow {x = x} {b = b} (record { sizes = s; width = w; few = f; long = h; clean = c }) in
+    let g = entries-grow {f = f} {x = x} {b = b} (record { sizes = s; width = w; few = m; long = h; clean = c }) in
     subst (λ (a : Answered). Numbered ns (a .answer)) (sym (g .2)) (accepted-numbered ns))
-    (refused-numbered ns R.Stray tt))
+    (refused-numbered ns (bad-entry f) (bad-numbered f)))
     (refused-numbered ns R.Torn tt))
     (refused-numbered ns R.Entries tt))
     (refused-numbered ns R.Width tt))

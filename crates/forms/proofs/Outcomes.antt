@@ -1,7 +1,7 @@
 -- What a form is answered, test by test, and the bytes that are written. Assumes nothing.
 use mathlib.Core.Path.{_≡_, refl, sym, ap, _∙_}
 use mathlib.Core.Bool.{true, false, _&&_}
-use mathlib.Core.List.{List, _++_}
+use mathlib.Core.List.{List, [], _∷_, _++_}
 use Prim.Native.Nat.{ℕ, _+_, _-_, _*_, _≤_, _<_}
 use native.Mathlib.Nat.{zero-add}
 use native.Mathlib.Omega.{arith}
@@ -15,52 +15,57 @@ use Rattle.tables.specs.declared.Refusal.{Refusal}
 use Rattle.tables.specs.declared.Refusal.the-variants as R
 use Rattle.tables.specs.declared.Answer.the-variants.{Accepted, Refused}
 use Rattle.tables.specs.Refusals.{if-accepted}
-use Rattle.tables.specs.Values.{good-width, zero-table, refuses, check-table, GoodTable}
+use Rattle.tables.specs.Values.{entries-of, good-width, zero-table, refuses, check-table, GoodTable}
 use Rattle.tables.proofs.Tests.{both-true}
-use Rattle.tables.proofs.Checking.{good-few, good-long}
+use Rattle.tables.proofs.Checking.{good-few, good-long, good-holds}
 use Rattle.terms.specs.Checks.{most-tokens}
 use Rattle.codec.specs.Numbers.{sum, pair, bytes}
 use Rattle.codec.proofs.Laws.{length-bytes, bytes-append, sets-append}
+use Rattle.packing.specs.Packing.{row-length}
 use Rattle.forms.specs.declared.Extent.{Extent}
 use Rattle.forms.specs.declared.Extent.the-variants.{Whole, Front}
-use Rattle.forms.specs.TableForms.{sized, first-size, second-size, table-length, fits, read-entries, read-sized}
-use Rattle.forms.specs.TableForms.{read-table, table-form, write-answer, written}
+use Rattle.forms.specs.declared.Layout.{Layout}
+use Rattle.forms.specs.declared.Layout.the-variants.{Plain, Packed}
+use Rattle.forms.specs.TableForms.{sized, first-size, second-size, form-length, fits, read-entries, read-sized, read-form}
+use Rattle.forms.specs.TableForms.{entry-bytes, form-of, form-answer, written}
 use Rattle.forms.specs.EquationForms.{most-equations, equations-length, counts, equations-in, check-each, check-sized}
 use Rattle.forms.specs.EquationForms.{check-equations, GoodSizes}
+use Rattle.forms.proofs.PackedRows.{rows-length}
 
 -- ---- Reading a table
 
--- No sizes: 1.
-pub read-unsized : (x : Extent) (b : List ℕ) → length b < 4 → refuses R.Torn zero-table ≡ read-table x b
-unfolding read-table sized
-read-unsized x b short = rw (lt-leb 4 (length b) short)
+module _ (f : Layout) (x : Extent) (b : List ℕ) where
+  -- No sizes: 1.
+  pub read-unsized : length b < 4 → refuses R.Torn zero-table ≡ read-form f x b
+  unfolding read-form sized
+  read-unsized short = rw (lt-leb 4 (length b) short)
 
-module _ (x : Extent) (b : List ℕ) (l n : ℕ) (el : l ≡ first-size b) (en : n ≡ second-size b) (room : 4 ≤ length b) where
-  as-sized : read-table x b ≡ read-sized x l n b
-  unfolding read-table sized
-  as-sized = rw (le-leb 4 (length b) room, el, en)
+  module _ (l n : ℕ) (el : l ≡ first-size b) (en : n ≡ second-size b) (room : 4 ≤ length b) where
+    as-sized : read-form f x b ≡ read-sized f x l n b
+    unfolding read-form sized
+    as-sized = rw (le-leb 4 (length b) room, el, en)
 
-  -- An l outside 1 to 16: 2.
-  pub read-width : good-width l ≡ false → refuses R.Width zero-table ≡ read-table x b
-  unfolding read-sized
-  read-width w = rw (as-sized, w)
-
-  module _ (w : good-width l ≡ true) where
-    -- More than 256 entries: 3.
-    pub read-many : limit < n → refuses R.Entries zero-table ≡ read-table x b
+    -- An l outside 1 to 16: 2.
+    pub read-width : good-width l ≡ false → refuses R.Width zero-table ≡ read-form f x b
     unfolding read-sized
-    read-many lt = rw (as-sized, w, lt-leb n limit lt)
+    read-width w = rw (as-sized, w)
 
-    module _ (few : n ≤ limit) where
-      -- A length that the sizes do not give: 1.
-      pub read-torn : fits x (table-length n) (length b) ≡ false → refuses R.Torn zero-table ≡ read-table x b
+    module _ (w : good-width l ≡ true) where
+      -- More than 256 entries: 3.
+      pub read-many : limit < n → refuses R.Entries zero-table ≡ read-form f x b
       unfolding read-sized
-      read-torn f = rw (as-sized, w, le-leb n limit few, f)
+      read-many lt = rw (as-sized, w, lt-leb n limit lt)
 
-      -- Else the entries are read.
-      pub read-all : fits x (table-length n) (length b) ≡ true → read-entries l n b ≡ read-table x b
-      unfolding read-sized
-      read-all f = rw (as-sized, w, le-leb n limit few, f)
+      module _ (few : n ≤ limit) where
+        -- A length that the sizes do not give: 1.
+        pub read-torn : fits x (form-length f l n) (length b) ≡ false → refuses R.Torn zero-table ≡ read-form f x b
+        unfolding read-sized
+        read-torn h = rw (as-sized, w, le-leb n limit few, h)
+
+        -- Else the entries are read.
+        pub read-all : fits x (form-length f l n) (length b) ≡ true → read-entries f l n b ≡ read-form f x b
+        unfolding read-sized
+        read-all h = rw (as-sized, w, le-leb n limit few, h)
 
 -- A form that fits is within the bytes.
 pub fits-room : (x : Extent) (size room : ℕ) → fits x size room ≡ true → size ≤ room
@@ -70,76 +75,62 @@ fits-room Front size room f = leb-true size room f
 
 -- ---- Writing a table
 
-module _ {t : Table} (g : GoodTable t) where
-  -- A good table has a care word for each entry.
-  pub good-cares : t .n ≤ length (t .care)
-  good-cares = omega (arith, good-few g, good-long g .0)
-
-  -- And a value word.
-  pub good-values : t .n ≤ length (t .value)
-  good-values = omega (arith, good-few g, good-long g .1)
-
-module _ (t : Table) (out : List ℕ) where
+module _ (f : Layout) (t : Table) (out : List ℕ) where
   -- A table that is refused by its own check: nothing is written.
   pub write-refused : {r : Refusal} → check-table t ≡ Refused r
-      → (Refused r ≡ write-answer t (length out)) × (out ≡ written (Refused r) (table-form t) out)
-  unfolding write-answer if-accepted written
+      → (Refused r ≡ form-answer f t (length out)) × (out ≡ written (Refused r) (form-of f t) out)
+  unfolding form-answer if-accepted written
   write-refused e = (rw e, refl)
 
   module _ (good : check-table t ≡ Accepted) where
     -- An output too short: 9, and nothing is written.
-    pub write-narrow : length out < table-length (t .n)
-        → (Refused R.Narrow ≡ write-answer t (length out)) × (out ≡ written (Refused R.Narrow) (table-form t) out)
-    unfolding write-answer if-accepted written
-    write-narrow short = (rw (good, lt-leb (table-length (t .n)) (length out) short), refl)
+    pub write-narrow : length out < form-length f (t .l) (t .n)
+        → (Refused R.Narrow ≡ form-answer f t (length out)) × (out ≡ written (Refused R.Narrow) (form-of f t) out)
+    unfolding form-answer if-accepted written
+    write-narrow short = (rw (good, lt-leb (form-length f (t .l) (t .n)) (length out) short), refl)
 
     -- Else it is accepted.
-    pub write-fits : table-length (t .n) ≤ length out → Accepted ≡ write-answer t (length out)
-    unfolding write-answer if-accepted
-    write-fits room = rw (good, le-leb (table-length (t .n)) (length out) room)
+    pub write-fits : form-length f (t .l) (t .n) ≤ length out → Accepted ≡ form-answer f t (length out)
+    unfolding form-answer if-accepted
+    write-fits room = rw (good, le-leb (form-length f (t .l) (t .n)) (length out) room)
 
--- the four stores of a form
-module _ (t : Table) (out : List ℕ) (cs : t .n ≤ length (t .care)) (vs : t .n ≤ length (t .value)) where
-  abbrev n : ℕ
-  n = t .n
+module _ (t : Table) (g : GoodTable t) where
+  -- the first words of an array of a good table
+  words-long : (ws : List ℕ) → length ws ≡ limit → length (bytes (take (t .n) ws)) ≡ 2 * t .n
+  words-long ws long =
+      length-bytes (take (t .n) ws) ∙ ap (λ (k : ℕ). 2 * k) (length-take-le (t .n) ws (omega (arith, good-few g, long)))
 
-  abbrev cares : List ℕ
-  cares = take n (t .care)
+  -- The bytes of a good table's entries, beside the sizes.
+  pub entry-bytes-long : (f : Layout) → 4 + length (entry-bytes f t) ≡ form-length f (t .l) (t .n)
+  unfolding entry-bytes
+  entry-bytes-long Plain =
+      let cs = take (t .n) (t .care) in
+      let vs = take (t .n) (t .value) in
+      ap (λ (b : List ℕ). 4 + length b) (bytes-append cs vs)
+      ∙ omega (
+        arith,
+        length-append (bytes cs) (bytes vs),
+        words-long (t .care) (good-long g .0),
+        words-long (t .value) (good-long g .1),
+      )
+  entry-bytes-long Packed =
+      let count : length (entries-of t) ≡ t .n = sym (good-holds g .count) in
+      ap (λ (k : ℕ). 4 + k)
+      (rows-length (t .l) (entries-of t) (g .list .wide) ∙ ap (λ (k : ℕ). k * row-length (t .l)) count)
 
-  abbrev values : List ℕ
-  values = take n (t .value)
+  -- The form of a good table has the length that its sizes give.
+  pub form-long : (f : Layout) → length (form-of f t) ≡ form-length f (t .l) (t .n)
+  unfolding form-of bytes
+  form-long f = omega (arith, entry-bytes-long f)
 
-  form-parts : table-form t ≡ pair (t .l) ++ (pair n ++ (bytes cares ++ bytes values))
-  unfolding table-form bytes
-  form-parts = ap (λ (r : List ℕ). pair (t .l) ++ (pair n ++ r)) (bytes-append cares values)
-
-  bytes-long : (ws : List ℕ) → n ≤ length ws → length (bytes (take n ws)) ≡ 2 * n
-  bytes-long ws h = length-bytes (take n ws) ∙ ap (λ (k : ℕ). 2 * k) (length-take-le n ws h)
-
-  form-long : length (table-form t) ≡ table-length n
-  form-long =
-      ap length form-parts
-      ∙ omega (arith, length-append (bytes cares) (bytes values), bytes-long (t .care) cs, bytes-long (t .value) vs)
-
-  stores : sets (sets (sets (sets out 0 (pair (t .l))) 2 (pair n)) 4 (bytes cares)) (4 + 2 * n) (bytes values)
-      ≡ sets out 0 (table-form t)
-  stores =
-      let at : 4 + length (bytes cares) ≡ 4 + 2 * n = omega (arith, bytes-long (t .care) cs) in
-      sym
-      (ap (sets out 0) form-parts
-      ∙ sets-append (pair (t .l)) (pair n ++ (bytes cares ++ bytes values)) out 0
-      ∙ sets-append (pair n) (bytes cares ++ bytes values) (sets out 0 (pair (t .l))) 2
-      ∙ sets-append (bytes cares) (bytes values) (sets (sets out 0 (pair (t .l))) 2 (pair n)) 4
-      ∙ ap (λ (k : ℕ). sets (sets (sets (sets out 0 (pair (t .l))) 2 (pair n)) 4 (bytes cares)) k (bytes values)) at)
-
-  -- Where there is room they are the form, and the bytes past it are kept.
-  pub stored : table-length n ≤ length out
-      → sets (sets (sets (sets out 0 (pair (t .l))) 2 (pair n)) 4 (bytes cares)) (4 + 2 * n) (bytes values)
-      ≡ written Accepted (table-form t) out
-  unfolding written if-accepted
-  stored room =
-      stores ∙ sets-eq (table-form t) out 0 (omega (arith, form-long))
-      ∙ ap (λ (k : ℕ). table-form t ++ drop k out) (zero-add (length (table-form t)))
+  -- Where there is room the stores of the sizes and the entries are the form, and the bytes past it are kept.
+  pub stored : (f : Layout) (out : List ℕ) → form-length f (t .l) (t .n) ≤ length out
+      → sets (sets (sets out 0 (pair (t .l))) 2 (pair (t .n))) 4 (entry-bytes f t) ≡ written Accepted (form-of f t) out
+  unfolding form-of bytes written if-accepted
+  stored f out room =
+      sym (sets-append (bytes (t .l ∷ t .n ∷ [])) (entry-bytes f t) out 0)
+      ∙ sets-eq (form-of f t) out 0 (omega (arith, form-long f))
+      ∙ ap (λ (k : ℕ). form-of f t ++ drop k out) (zero-add (length (form-of f t)))
 
 -- ---- The checks of equations
 

@@ -8,7 +8,7 @@ use Prim.Native.Nat.{ℕ, _≤_}
 use native.Mathlib.Omega.{arith}
 use borrow.Author.Tests.{leb-true}
 use lib.Dec.{T}
-use lib.ListN.{length, take, length-map, length-take}
+use lib.ListN.{length, take, drop, length-map, length-take, length-drop}
 use Rattle.model.specs.Groups.{Bits, nonzero}
 use Rattle.model.specs.Growth.{Entries, limit, covered, grow-all, Reduced}
 use Rattle.model.specs.Tables.{Side, positive, negative, Wide, groups}
@@ -29,9 +29,14 @@ use Rattle.tables.specs.Refusals.{answer-number}
 use Rattle.tables.specs.Lists.{strings, pairs}
 use Rattle.tables.specs.Values.{table-of, entries-of, accepts, refuses, made-or-full, good-width, GoodTable}
 use Rattle.tables.proofs.Values.{entries-of-table, table-of-good}
+use Rattle.packing.specs.Packing.{row-length, unpacked}
 use Rattle.forms.specs.declared.Extent.{Extent}
-use Rattle.forms.specs.TableForms.{first-size, second-size, cares, values, written-entries, read-table}
-use Rattle.forms.specs.TableForms.{Passed}
+use Rattle.forms.specs.declared.Layout.{Layout}
+use Rattle.forms.specs.declared.Layout.the-variants.{Plain, Packed}
+use Rattle.forms.specs.TableForms.{first-size, second-size, form-length, cares, values, packed-rows}
+use Rattle.forms.specs.TableForms.{written-entries, read-form, Passed}
+use Rattle.forms.proofs.PackedRows.{rows-count, rows-wide}
+use Rattle.forms.proofs.Outcomes.{fits-room}
 use Rattle.forms.proofs.Tests.{entries-in, grown-table, reads-passed}
 
 -- ---- The entries that a form holds
@@ -42,41 +47,51 @@ strings-wide l [] = tt
 strings-wide l (w ∷ ws) = (string-length l w, strings-wide l ws)
 
 -- The entries that are written have l positions.
-pub entries-wide : (l n : ℕ) (b : List ℕ) → Wide l (written-entries l n b)
+pub entries-wide : (f : Layout) (l n : ℕ) (b : List ℕ) → form-length f l n ≤ length b → Wide l (written-entries f l n b)
 unfolding written-entries strings
-entries-wide l n b = strings-wide l (take n (pairs (cares n b) (values n b)))
+entries-wide Plain l n b room = strings-wide l (take n (pairs (cares n b) (values n b)))
+entries-wide Packed l n b room = rows-wide l n (drop 4 b) (omega (arith, length-drop 4 b))
 
-entries-few : {x : Extent} {b : List ℕ} → Passed x b → length (entries-in b) ≤ limit
+-- There are no more than n.
+entries-most : (f : Layout) (l n : ℕ) (b : List ℕ) → length (written-entries f l n b) ≤ n
 unfolding written-entries strings
-entries-few {b = b} p =
-    let n = second-size b in
+entries-most Plain l n b =
     let ws = pairs (cares n b) (values n b) in
-    omega (arith, leb-true n limit (p .few), length-map (take n ws) (string (first-size b)), length-take n ws)
+    omega (arith, length-map (take n ws) (string l), length-take n ws)
+entries-most Packed l n b =
+    omega (arith, length-map (packed-rows l n b) (unpacked l), rows-count (row-length l) n (drop 4 b))
 
--- growing them is never full
-pub entries-grow : {x : Extent} {b : List ℕ} → Passed x b
-    → (ρ : Entries) × (grow-all [] (entries-in b) ≡ some ρ) × (grown-table b ≡ accepts (table-of (first-size b) ρ))
-unfolding made-or-full
-entries-grow {b = b} p =
-    let g = never-full (entries-in b) (entries-few p) in
-    (g .0, g .1, rw (g .1))
+module _ {f : Layout} {x : Extent} {b : List ℕ} (p : Passed f x b) where
+  -- a form that passes is within the bytes
+  pub passed-room : form-length f (first-size b) (second-size b) ≤ length b
+  passed-room = fits-room x _ (length b) (p .long)
+
+  -- growing its entries is never full
+  pub entries-grow : (ρ : Entries) × (grow-all [] (entries-in f b) ≡ some ρ)
+      × (grown-table f b ≡ accepts (table-of (first-size b) ρ))
+  unfolding made-or-full
+  entries-grow =
+      let few : length (entries-in f b) ≤ limit =
+      omega (arith, leb-true (second-size b) limit (p .few), entries-most f (first-size b) (second-size b) b) in
+      let g = never-full (entries-in f b) few in
+      (g .0, g .1, rw (g .1))
 
 -- ---- The table that was read
 
 -- The list that an accepted reading has grown from the empty one, and its table.
-record Grown (b : List ℕ) (t : Table) : Type 0 where
+record Grown (f : Layout) (b : List ℕ) (t : Table) : Type 0 where
   list : Entries
   width : good-width (first-size b) ≡ true
   shape : Shape Unit (first-size b) list
-  by : GrownBy [] (entries-in b) list
+  by : GrownBy [] (entries-in f b) list
   is : table-of (first-size b) list ≡ t
 
-read-grown : (x : Extent) (b : List ℕ) (t : Table) → read-table x b ≡ accepts t → Grown b t
-read-grown x b t e =
-    let p = reads-passed x b (accepts t) refl e in
+read-grown : (f : Layout) (x : Extent) (b : List ℕ) (t : Table) → read-form f x b ≡ accepts t → Grown f b t
+read-grown f x b t e =
+    let p = reads-passed f x b (accepts t) refl e in
     let g = entries-grow (p .0) in
-    let wide = entries-wide (first-size b) (second-size b) b in
-    let made = given-at (from-empty (first-size b) (entries-in b) wide) (g .0) (g .1) in
+    let wide = entries-wide f (first-size b) (second-size b) b (passed-room (p .0)) in
+    let made = given-at (from-empty (first-size b) (entries-in f b) wide) (g .0) (g .1) in
     record {
       list = g .0;
       width = p .0 .width;
@@ -93,9 +108,10 @@ same-groups positive l τ ρ f g = (λ h. (h .0, rw (← f g (h .0 .1)) (h .1)),
 same-groups negative l τ ρ f g = (λ h. (h .0, rw (← f g (h .0 .1)) (h .1)), λ h. (h .0, rw (f g (h .0 .1)) (h .1)))
 
 -- A table that was read is a good table value, with no entry that another subsumes and none all zero.
-pub read-good : (x : Extent) (b : List ℕ) (t : Table) → read-table x b ≡ accepts t → GoodTable t × Reduced (entries-of t)
-read-good x b t e =
-    let r = read-grown x b t e in
+pub read-good : (f : Layout) (x : Extent) (b : List ℕ) (t : Table) → read-form f x b ≡ accepts t
+    → GoodTable t × Reduced (entries-of t)
+read-good f x b t e =
+    let r = read-grown f x b t e in
     let good = shape-good (r .shape) in
     subst (λ (u : Table). GoodTable u × Reduced (entries-of u)) (r .is) (
       table-of-good (first-size b) (r .list) (r .width) good,
@@ -103,24 +119,25 @@ read-good x b t e =
     )
 
 -- A form is never refused as full: it has at most 256 entries.
-pub read-never-full : (x : Extent) (b : List ℕ) (t : Table) → ¬ (read-table x b ≡ refuses R.Full t)
-read-never-full x b t e =
-    let p = reads-passed x b (refuses R.Full t) refl e in
+pub read-never-full : (f : Layout) (x : Extent) (b : List ℕ) (t : Table) → ¬ (read-form f x b ≡ refuses R.Full t)
+read-never-full f x b t e =
+    let p = reads-passed f x b (refuses R.Full t) refl e in
     let g = entries-grow (p .0) in
     let clash : _≡_ {A = ℕ} 0 8 = ap (λ (a : Answered). answer-number (a .answer)) (sym (g .2) ∙ p .1) in
     absurd (omega arith)
 
 -- Reading neither loses nor adds a group, on either side.
-pub read-groups : (x : Extent) (side : Side) (b : List ℕ) (t : Table) → read-table x b ≡ accepts t
-    → Equal (groups side (t .l) (entries-of t)) (groups side (first-size b) (entries-in b))
+pub read-groups : (f : Layout) (x : Extent) (side : Side) (b : List ℕ) (t : Table) → read-form f x b ≡ accepts t
+    → Equal (groups side (t .l) (entries-of t)) (groups side (first-size b) (entries-in f b))
 unfolding covered table-of
-read-groups x side b t e =
-    let r = read-grown x b t e in
-    subst (λ (u : Table). Equal (groups side (u .l) (entries-of u)) (groups side (first-size b) (entries-in b))) (r .is)
+read-groups f x side b t e =
+    let r = read-grown f x b t e in
+    subst (λ (u : Table). Equal (groups side (u .l) (entries-of u)) (groups side (first-size b) (entries-in f b))) (r .is)
     (rw (entries-of-table (first-size b) (r .list) (shape-good (r .shape)))
-    (same-groups side (first-size b) (r .list) (entries-in b) (r .by .exact)))
+    (same-groups side (first-size b) (r .list) (entries-in f b) (r .by .exact)))
 
--- Two forms that read as one table hold the same groups, on either side.
-pub alike : (x y : Extent) (side : Side) (b c : List ℕ) (t : Table) → read-table x b ≡ accepts t → read-table y c ≡ accepts t
-    → Equal (groups side (first-size b) (entries-in b)) (groups side (first-size c) (entries-in c))
-alike x y side b c t e f g = Iff·trans (Iff·symm (read-groups x side b t e g)) (read-groups y side c t f g)
+-- Two forms that read as one table hold the same groups, on either side, whichever layout each has.
+pub alike : (f h : Layout) (x y : Extent) (side : Side) (b c : List ℕ) (t : Table) → read-form f x b ≡ accepts t
+    → read-form h y c ≡ accepts t
+    → Equal (groups side (first-size b) (entries-in f b)) (groups side (first-size c) (entries-in h c))
+alike f h x y side b c t e d g = Iff·trans (Iff·symm (read-groups f x side b t e g)) (read-groups h y side c t d g)

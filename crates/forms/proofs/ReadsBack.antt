@@ -9,7 +9,7 @@ use lib.Bits.{bitAnd}
 use lib.ListN.{length, getD, take, drop, length-append, length-map}
 use lib.Pow.{pow-mono}
 use lib.Seq.{length-take-le, getD-take, drop-drop, drop-at}
-use Rattle.model.specs.Growth.{Entries, limit, Reduced}
+use Rattle.model.specs.Growth.{Entries, limit, grow-all, Reduced}
 use Rattle.model.specs.Strings.{Trits}
 use Rattle.model.specs.Tables.{Side, groups}
 use Rattle.model.specs.Questions.{Equal}
@@ -21,18 +21,23 @@ use Rattle.tables.specs.declared.Table.{Table}
 use Rattle.tables.specs.declared.Answer.the-variants.{Accepted}
 use Rattle.tables.specs.Lists.{padded, list-words, Stores, pairs, strings}
 use Rattle.tables.specs.Refusals.{if-accepted}
-use Rattle.tables.specs.Values.{table-of, entries-of, accepts, made-or-full, clean, entry-at, all-from, all-clean, GoodTable}
+use Rattle.tables.specs.Values.{table-of, entries-of, accepts, made-or-full, zero-table, clean, entry-at, all-from, all-clean, GoodTable}
 use Rattle.tables.proofs.Arrays.{stores-at, stores-length}
 use Rattle.tables.proofs.Checking.{good-holds, width-most}
+use Rattle.packing.specs.Packing.{row-length, packed}
 use Rattle.codec.specs.Numbers.{numbers, bytes}
 use Rattle.codec.proofs.Laws.{length-bytes, bytes-append, Narrow, number-pair, numbers-bytes}
 use Rattle.forms.specs.declared.Extent.the-variants.{Whole, Front}
-use Rattle.forms.specs.TableForms.{sized, first-size, second-size, table-length, fits, cares, values, written-entries}
-use Rattle.forms.specs.TableForms.{read-table, table-form, written}
-use Rattle.forms.specs.TableForms.{Passed}
+use Rattle.forms.specs.declared.Layout.{Layout}
+use Rattle.forms.specs.declared.Layout.the-variants.{Plain, Packed}
+use Rattle.forms.specs.TableForms.{sized, first-size, second-size, form-length, fits, cares, values, rows, packed-rows}
+use Rattle.forms.specs.TableForms.{written-entries, all-well, read-form, read-table, read-packed, Passed}
+use Rattle.forms.specs.TableForms.{rows-of, entry-bytes, form-of, table-form, packed-form, written}
 use Rattle.forms.proofs.Tests.{entries-in, passed-reads}
 use Rattle.forms.proofs.Reading.{entries-grow, read-groups}
 use Rattle.forms.proofs.Cutting.{table-followed}
+use Rattle.forms.proofs.Outcomes.{entry-bytes-long, form-long}
+use Rattle.forms.proofs.PackedRows.{rows-back, packed-rows-good, packed-rows-back}
 
 -- ---- Rows of words
 
@@ -114,78 +119,96 @@ module _ {l : ℕ} {care value : List ℕ} {n : ℕ} {τ : Entries} (h : Stores 
 
 -- ---- The form of a good table value
 
--- The form of a good table has the length that its count gives.
-pub form-length : (t : Table) → GoodTable t → length (table-form t) ≡ table-length (t .n)
-unfolding table-form
-form-length t g =
-    let long = rows-long (good-holds g) in
-    let cs = take (t .n) (t .care) in
-    let vs = take (t .n) (t .value) in
-    omega (arith, length-bytes (t .l ∷ t .n ∷ (cs ++ vs)), length-append cs vs, long .0, long .1)
-
--- what is read from it
 module _ (t : Table) (g : GoodTable t) where
-  form-width : first-size (table-form t) ≡ t .l
-  unfolding table-form bytes
-  form-width = number-pair (t .l) (omega (arith, width-most (t .l) (g .width)))
+  -- its sizes
+  form-width : (f : Layout) → first-size (form-of f t) ≡ t .l
+  unfolding form-of bytes
+  form-width f = number-pair (t .l) (omega (arith, width-most (t .l) (g .width)))
 
-  form-count : second-size (table-form t) ≡ t .n
-  unfolding table-form bytes
-  form-count = number-pair (t .n) (omega (arith, good-holds g .count, g .list .few))
+  form-count : (f : Layout) → second-size (form-of f t) ≡ t .n
+  unfolding form-of bytes
+  form-count f = number-pair (t .n) (omega (arith, good-holds g .count, g .list .few))
 
-  form-words : drop 4 (table-form t) ≡ bytes (take (t .n) (t .care)) ++ bytes (take (t .n) (t .value))
-  unfolding table-form bytes
+  -- the words of a plain one
+  form-words : drop 4 (form-of Plain t) ≡ bytes (take (t .n) (t .care)) ++ bytes (take (t .n) (t .value))
+  unfolding form-of entry-bytes bytes
   form-words = bytes-append (take (t .n) (t .care)) (take (t .n) (t .value))
 
-  form-cares : cares (t .n) (table-form t) ≡ take (t .n) (t .care)
+  form-cares : cares (t .n) (form-of Plain t) ≡ take (t .n) (t .care)
   form-cares =
       let h = good-holds g in
       ap (numbers (t .n)) form-words
       ∙ numbers-back (t .n) _ _ (rows-long h .0) (rows-narrow h (width-most (t .l) (g .width)) .0)
 
-  form-values : values (t .n) (table-form t) ≡ take (t .n) (t .value)
+  form-values : values (t .n) (form-of Plain t) ≡ take (t .n) (t .value)
   form-values =
       let h = good-holds g in
-      ap (numbers (t .n)) (sym (drop-drop (2 * t .n) 4 (table-form t)) ∙ ap (drop (2 * t .n)) form-words)
+      ap (numbers (t .n)) (sym (drop-drop (2 * t .n) 4 (form-of Plain t)) ∙ ap (drop (2 * t .n)) form-words)
       ∙ numbers-second (t .n) _ _ (rows-long h .0) (rows-long h .1) (rows-narrow h (width-most (t .l) (g .width)) .1)
 
-  form-entries : entries-in (table-form t) ≡ entries-of t
-  unfolding entries-of written-entries
-  form-entries = rw (form-width, form-count, form-cares, form-values) (rows-strings (good-holds g))
+  -- the rows of a packed one
+  form-rows : packed-rows (t .l) (t .n) (form-of Packed t) ≡ map packed (entries-of t)
+  unfolding form-of entry-bytes bytes
+  form-rows =
+      let τ = entries-of t in
+      ap₂ (rows (row-length (t .l))) (good-holds g .count) (sym (append-nil (rows-of τ)))
+      ∙ rows-back (t .l) τ [] (g .list .wide)
 
-  form-passed : Passed Whole (table-form t)
+  -- it holds the table's entries
+  written-same : (f : Layout) → written-entries f (t .l) (t .n) (form-of f t) ≡ entries-of t
+  unfolding entries-of written-entries
+  written-same Plain = rw (form-cares, form-values) (rows-strings (good-holds g))
+  written-same Packed = rw form-rows (packed-rows-back (t .l) (entries-of t) (g .list .wide))
+
+  form-entries : (f : Layout) → entries-in f (form-of f t) ≡ entries-of t
+  form-entries f = rw (form-width f, form-count f) (written-same f)
+
+  -- each is well written
+  form-well : (f : Layout) → all-well f (t .l) (t .n) (form-of f t) ≡ true
+  unfolding all-well
+  form-well Plain = rw (form-cares, form-values) (rows-clean (good-holds g))
+  form-well Packed = rw form-rows (packed-rows-good (t .l) (entries-of t) (g .list .wide))
+
+  form-passed : (f : Layout) → Passed f Whole (form-of f t)
   unfolding sized fits
-  form-passed = record {
-    sizes = le-leb 4 (length (table-form t)) (omega (arith, form-length t g));
-    width = rw form-width (g .width);
-    few = rw form-count (le-leb (t .n) limit (omega (arith, good-holds g .count, g .list .few)));
-    long = rw form-count (eq-eqb (table-length (t .n)) (length (table-form t)) (sym (form-length t g)));
-    clean = rw (form-width, form-count, form-cares, form-values) (rows-clean (good-holds g));
+  form-passed f = record {
+    sizes = le-leb 4 (length (form-of f t)) (omega (arith, form-long t g f, entry-bytes-long t g f));
+    width = rw (form-width f) (g .width);
+    few = rw (form-count f) (le-leb (t .n) limit (omega (arith, good-holds g .count, g .list .few)));
+    long = rw (form-width f, form-count f)
+        (eq-eqb (form-length f (t .l) (t .n)) (length (form-of f t)) (sym (form-long t g f)));
+    clean = rw (form-width f, form-count f) (form-well f);
   }
 
--- What is written reads back as a table of the same groups, on either side.
-pub written-groups : (t : Table) → GoodTable t
-    → (u : Table) × (read-table Whole (table-form t) ≡ accepts u)
-    × ((side : Side) → Equal (groups side (u .l) (entries-of u)) (groups side (t .l) (entries-of t)))
-written-groups t g =
-    let p = form-passed t g in
-    let m = entries-grow p in
-    let e = passed-reads Whole (table-form t) p ∙ m .2 in (
-      table-of _ (m .0),
-      e,
-      λ side. subst (Equal _) (ap₂ (groups side) (form-width t g) (form-entries t g))
-          (read-groups Whole side (table-form t) _ e),
-    )
+  -- The form of a good table reads as its entries, grown in order, whichever layout it has.
+  pub form-reads : (f : Layout) → read-form f Whole (form-of f t) ≡ made-or-full (t .l) zero-table (grow-all [] (entries-of t))
+  form-reads f = passed-reads f Whole (form-of f t) (form-passed f) ∙ rw (form-entries f, form-width f)
 
--- A reduced table reads back as it was written.
-pub written-reads : (t : Table) → GoodTable t → Reduced (entries-of t) → read-table Whole (table-form t) ≡ accepts t
-unfolding made-or-full
-written-reads t g r =
-    passed-reads Whole (table-form t) (form-passed t g)
-    ∙ rw (form-entries t g, form-width t g, regrown (entries-of t) r (g .list .few)) (ap accepts (sym (g .same)))
+  -- The packed form of a table reads as the same table as its plain form does.
+  pub packed-reads-same : read-packed (packed-form t) ≡ read-table Whole (table-form t)
+  packed-reads-same = form-reads Packed ∙ sym (form-reads Plain)
 
--- It reads back too at the front of the bytes that it was written into.
-pub written-front : (t : Table) (out : List ℕ) → GoodTable t → Reduced (entries-of t)
-    → read-table Front (written Accepted (table-form t) out) ≡ accepts t
-unfolding written if-accepted
-written-front t out g r = table-followed (table-form t) t (written-reads t g r) (drop (length (table-form t)) out)
+  -- What is written reads back as a table of the same groups, on either side.
+  pub written-groups : (f : Layout)
+      → (u : Table) × (read-form f Whole (form-of f t) ≡ accepts u)
+      × ((side : Side) → Equal (groups side (u .l) (entries-of u)) (groups side (t .l) (entries-of t)))
+  written-groups f =
+      let p = form-passed f in
+      let m = entries-grow p in
+      let e = passed-reads f Whole (form-of f t) p ∙ m .2 in (
+        table-of _ (m .0),
+        e,
+        λ side. subst (Equal _) (ap₂ (groups side) (form-width f) (form-entries f))
+            (read-groups f Whole side (form-of f t) _ e),
+      )
+
+  -- A reduced table reads back as it was written.
+  pub written-reads : (f : Layout) → Reduced (entries-of t) → read-form f Whole (form-of f t) ≡ accepts t
+  unfolding made-or-full
+  written-reads f r = form-reads f ∙ rw (regrown (entries-of t) r (g .list .few)) (ap accepts (sym (g .same)))
+
+  -- It reads back too at the front of the bytes that it was written into.
+  pub written-front : (f : Layout) (out : List ℕ) → Reduced (entries-of t)
+      → read-form f Front (written Accepted (form-of f t) out) ≡ accepts t
+  unfolding written if-accepted
+  written-front f out r = table-followed f (form-of f t) t (written-reads f r) (drop (length (form-of f t)) out)

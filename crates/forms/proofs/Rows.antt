@@ -5,9 +5,9 @@ use Prim.Native.Nat.{ℕ, zero, suc, _+_, _-_, _*_, _≤_, _<_}
 use native.Mathlib.Numerals.{add-one}
 use native.Mathlib.Omega.{arith}
 use lib.ListN.{length, getD, take, drop, length-drop}
-use lib.Seq.{drop-cons, drop-drop, drop-append-le}
-use Rattle.codec.specs.Numbers.{number-at, numbers}
-use Rattle.codec.proofs.Laws.{length-numbers, number-drop}
+use lib.Seq.{length-take-le, drop-cons, drop-drop, drop-append-le, sets}
+use Rattle.codec.specs.Numbers.{number-at, numbers, bytes}
+use Rattle.codec.proofs.Laws.{length-numbers, number-drop, length-bytes, bytes-append, sets-append}
 
 -- the number at an index of a row
 row-at : (n k : ℕ) (b : List ℕ) → k < n → getD (numbers n b) k 0 ≡ number-at b (2 * k)
@@ -63,3 +63,11 @@ numbers-front (suc n) (p ∷ q ∷ b) c h = ap (λ (r : List ℕ). (p + 256 * q)
 pub numbers-within : (at n : ℕ) (b c : List ℕ) → at + 2 * n ≤ length b → numbers n (drop at (b ++ c)) ≡ numbers n (drop at b)
 numbers-within at n b c h =
     ap (numbers n) (drop-append-le at b c (omega arith)) ∙ numbers-front n (drop at b) c (omega (arith, length-drop at b))
+
+-- two rows that are written one after the other
+pub rows-stored : (n at : ℕ) (us ws b : List ℕ) → n ≤ length us
+    → sets (sets b at (bytes (take n us))) (at + 2 * n) (bytes ws) ≡ sets b at (bytes (take n us ++ ws))
+rows-stored n at us ws b h =
+    let front = take n us in
+    let e : length (bytes front) ≡ 2 * n = length-bytes front ∙ ap (λ (k : ℕ). 2 * k) (length-take-le n us h) in
+    rw (bytes-append front ws, ← e) (sym (sets-append (bytes front) (bytes ws) b at))

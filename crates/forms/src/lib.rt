@@ -1,24 +1,29 @@
-// The written forms of tables and equations: 16-bit numbers, low byte first. Inner: not a public call.
+// The written forms of tables and equations: 16-bit numbers, low byte first, and packed rows. Public are `read_table`,
+// `read_packed`, `write_table` and `write_packed`, from bytes to a table value and back. The rest is inner: not a public call.
 pub mod equations; // the walk over the equations of a form, and their checks
+pub mod entries; // the entries of a table in a form, plain or packed
 
 use tables::Answer;
 use tables::Answered;
 use tables::Refusal;
 use tables::Table;
-use words::Entry;
 ghost use mathlib.Core.Path.{_≡_};
-ghost use mathlib.Core.Bool.{true};
 ghost use Prim.Native.Nat.{_≤_};
 ghost use lib.ListN.{length};
-ghost use Rattle.tables.specs.Values.{good-width, all-clean};
-ghost use Rattle.lists.specs.WorkingLists.{Holds};
-ghost use Rattle.forms.specs.TableForms.{fits, table-length, cares, values, written-entries, read-entries, read-table};
-ghost use Rattle.forms.specs.TableForms.{write-answer, table-form, written};
+ghost use Rattle.forms.specs.declared.Extent.the-variants.{Whole};
+ghost use Rattle.forms.specs.declared.Layout.the-variants.{Plain, Packed};
+ghost use Rattle.forms.specs.TableForms.{form-length, fits, read-form, form-of, form-answer, written};
 
 // Where a form ends: it is all the bytes, or more may follow it.
 pub enum Extent {
     Whole,
     Front,
+}
+
+// How a form has its entries: care and value words of 16 bits, or a row of bytes each, five positions to a byte.
+pub enum Layout {
+    Plain,
+    Packed,
 }
 
 // A place among the e equations of a form: k equations and their `at` tokens stand before it.
@@ -38,44 +43,20 @@ fn fits(extent: Extent, size: usize, room: usize) -> bool
     }
 }
 
-// Reads the n written entries as words. Is each clean: no bit above l, no value without care?
-fn read_words(l: u32, n: usize, b: &[u8], row: &mut [u64; 256]) -> bool
-    requires { ⌜ (l ≤ 32) × (n ≤ 256) × (table-length n ≤ length (now b)) ⌝ }
-    ensures clean { λ r. ⌜ r ≡ all-clean l n (cares n (now (b .entry))) (values n (now (b .entry))) ⌝ }
-    ensures made { λ r. ⌜ (r ≡ true → Holds l (now (row .exit)) n (written-entries l n (now (b .entry)))) ⌝ }
+// The length of the form of n entries of l positions.
+fn form_length(layout: Layout, l: u32, n: usize) -> usize
+    requires { ⌜ (l ≤ 32) × (n ≤ 256) ⌝ }
+    ensures { λ r. ⌜ r ≡ form-length layout l n ⌝ }
 {
-    // As a slice its length is known.
-    let whole: &[u64] = &*row;
-    let full = words::full(l);
-    let mut good = true;
-    let mut i = 0;
-    while i < n {
-        let c = codec::number_at(b, 4 + 2 * i) as u32;
-        let v = codec::number_at(b, 4 + 2 * n + 2 * i) as u32;
-        good = good & ((c <= full) & ((v & c) == v));
-        row[i] = words::word_of(Entry { care: c, value: v });
-        i += 1;
+    match layout {
+        Layout::Plain => 4 + 4 * n,
+        Layout::Packed => 4 + n * packing::row_length(l),
     }
-    good
 }
 
-// The table of n written entries: 4 by entry, then each is grown, in order.
-fn read_entries(l: u32, n: usize, b: &[u8]) -> Answered
-    requires { ⌜ (good-width l ≡ true) × (n ≤ 256) × (table-length n ≤ length (now b)) ⌝ }
-    ensures { λ r. ⌜ r ≡ read-entries l n (now (b .entry)) ⌝ }
-{
-    let mut row = [0u64; 256];
-    if !read_words(l, n, b, &mut row) {
-        return tables::refused(Refusal::Stray);
-    }
-    let mut list = [0u64; 256];
-    let g = lists::growth::grow_each(&mut list, 0, l, &row, n);
-    lists::values::made_or_full(l, Table::zero(), g, &list)
-}
-
-// Reads a table: sizes present (1), 2, 3, length (1), 4 by entry.
-pub fn read_table(extent: Extent, b: &[u8]) -> Answered
-    ensures { λ r. ⌜ r ≡ read-table extent (now (b .entry)) ⌝ }
+// Reads a table: sizes present (1), 2, 3, length (1), 4 or, packed, 12 by entry.
+pub fn read(layout: Layout, extent: Extent, b: &[u8]) -> Answered
+    ensures { λ r. ⌜ r ≡ read-form layout extent (now (b .entry)) ⌝ }
 {
     if b.len() < 4 {
         return tables::refused(Refusal::Torn);
@@ -88,29 +69,58 @@ pub fn read_table(extent: Extent, b: &[u8]) -> Answered
     if Table::ENTRIES < n {
         return tables::refused(Refusal::Entries);
     }
-    if !fits(extent, 4 + 4 * n, b.len()) {
+    if !fits(extent, form_length(layout, l, n), b.len()) {
         return tables::refused(Refusal::Torn);
     }
-    read_entries(l, n, b)
+    entries::read(layout, l, n, b)
+}
+
+// Reads a plain form.
+pub fn read_table(extent: Extent, b: &[u8]) -> Answered
+    ensures { λ r. ⌜ r ≡ read-form Plain extent (now (b .entry)) ⌝ }
+{
+    read(Layout::Plain, extent, b)
+}
+
+// Reads a packed form.
+pub fn read_packed(b: &[u8]) -> Answered
+    ensures { λ r. ⌜ r ≡ read-form Packed Whole (now (b .entry)) ⌝ }
+{
+    read(Layout::Packed, Extent::Whole, b)
 }
 
 // Writes the entries of a table as they are: 2, 3, 4, then 9. A refusal writes nothing.
-pub fn write_table(t: Table, out: &mut [u8]) -> Answer
-    ensures answer { λ r. ⌜ r ≡ write-answer t (length (now (out .entry))) ⌝ }
-    ensures bytes { λ r. ⌜ now (out .exit) ≡ written r (table-form t) (now (out .entry)) ⌝ }
+pub fn write(layout: Layout, t: Table, out: &mut [u8]) -> Answer
+    ensures answer { λ r. ⌜ r ≡ form-answer layout t (length (now (out .entry))) ⌝ }
+    ensures bytes { λ r. ⌜ now (out .exit) ≡ written r (form-of layout t) (now (out .entry)) ⌝ }
 {
     match tables::check(t) {
         Answer::Refused(r) => Answer::Refused(r),
         Answer::Accepted => {
             let n = t.n;
-            if out.len() < 4 + 4 * n {
+            if out.len() < form_length(layout, t.l, n) {
                 return Answer::Refused(Refusal::Narrow);
             }
             codec::write_number(out, 0, t.l);
             codec::write_number(out, 2, n as u32);
-            codec::write_words(out, 4, &t.care, n);
-            codec::write_words(out, 4 + 2 * n, &t.value, n);
+            entries::write(layout, t, out);
             Answer::Accepted
         }
     }
+}
+
+// Writes the plain form.
+pub fn write_table(t: Table, out: &mut [u8]) -> Answer
+    ensures answer { λ r. ⌜ r ≡ form-answer Plain t (length (now (out .entry))) ⌝ }
+    ensures bytes { λ r. ⌜ now (out .exit) ≡ written r (form-of Plain t) (now (out .entry)) ⌝ }
+{
+    write(Layout::Plain, t, out)
+}
+
+// Writes the packed form.
+pub fn write_packed(t: Table, out: &mut [u8]) -> Answer
+    ensures answer { λ r. ⌜ r ≡ form-answer Packed t (length (now (out .entry))) ⌝ }
+    ensures bytes { λ r. ⌜ now (out .exit) ≡ written r (form-of Packed t) (now (out .entry)) ⌝ }
+{
+    write(Layout::Packed, t, out)
 }

@@ -16,14 +16,15 @@ use Rattle.tables.specs.Refusals.{refusal-number, if-accepted}
 use Rattle.tables.specs.Values.{accepts, GoodTable}
 use Rattle.operations.specs.Outcomes.{groups-of}
 use Rattle.operations.specs.Operations.{side-numbered}
+use Rattle.forms.specs.declared.Layout.the-variants.{Plain}
 use Rattle.forms.specs.declared.Extent.the-variants.{Front}
 use Rattle.forms.specs.TableForms.{read-table}
 use Rattle.forms.specs.EquationForms.{equations-in, check-equations}
 use Rattle.forms.proofs.Reading.{read-good}
 use Rattle.running.specs.declared.Running.{Running}
 use Rattle.running.specs.States.{none-applied, run-from, run-on}
-use Rattle.analyser.specs.Demand3.{run-events}
-use Rattle.analyser.proofs.Demand3.{from-described}
+use Rattle.demands.specs.Demand3.{run-events}
+use Rattle.demands.proofs.Demand3.{from-described}
 use Rattle.text.specs.declared.Reported.{Reported}
 use Rattle.report.specs.Reports.{most-input, after-table, input-run, input-text, narrowed, fits-in}
 use Rattle.report.specs.Reports.{reported, report-of}
@@ -57,6 +58,6 @@ report-described input out t few reads checked other θ θ′ d r =
     let run : input-run input ≡ run-from 0 t 0 ws = rw (le-leb (length input) most-input few, reads, checked) in
     let is : report-of input out .state ≡ run-from 0 t 0 ws = reported-state (input-run input) (input-text input) out other
     ∙ run in
-    let g = from-described 0 t ws (read-good Front input t reads .0) θ θ′ d
+    let g = from-described 0 t ws (read-good Plain Front input t reads .0) θ θ′ d
     (subst (λ (y : Running). Reaches θ (run-events (t .l) (y .applied) ws) θ′) is r) in
     subst (λ (y : Running). GoodTable (y .table) × Describes (groups-of positive (y .table)) θ′) (sym is) g

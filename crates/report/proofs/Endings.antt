@@ -20,6 +20,7 @@ use Rattle.tables.specs.Refusals.{refusal-number, if-accepted, member, one-of}
 use Rattle.tables.specs.Values.{accepts, GoodTable}
 use Rattle.tables.proofs.Numbers.{within, one-of-more, at-most, number-most}
 use Rattle.operations.specs.Operations.{side-numbered}
+use Rattle.forms.specs.declared.Layout.the-variants.{Plain}
 use Rattle.forms.specs.declared.Extent.the-variants.{Front}
 use Rattle.forms.specs.TableForms.{read-table}
 use Rattle.forms.specs.EquationForms.{Written, check-each}
@@ -29,7 +30,7 @@ use Rattle.forms.proofs.Reading.{read-good}
 use Rattle.forms.proofs.Numbers.{read-numbers, equations-numbers}
 use Rattle.running.specs.declared.Running.{Running}
 use Rattle.running.specs.States.{state, written-call, none-applied, run-from}
-use Rattle.analyser.proofs.Ends.{first-accepted, first-refused}
+use Rattle.demands.proofs.Ends.{first-accepted, first-refused}
 use Rattle.text.proofs.Writing.{decimal-most}
 use Rattle.text.specs.declared.Reported.{Reported}
 use Rattle.text.specs.Lines.{eq, block, first-text, equation-text}
@@ -175,7 +176,7 @@ module _ (input : List ℕ) where
   pub refused-numbers : {r : Refusal} → InputRefused input r → T (one-of early-numbers r)
   unfolding one-of member within
   refused-numbers (long over) = tt
-  refused-numbers (unread {r} few e) = one-of-more (1 ∷ 2 ∷ 3 ∷ 4 ∷ []) early-numbers r tt (read-numbers Front input r e)
+  refused-numbers (unread {r} few e) = one-of-more (1 ∷ 2 ∷ 3 ∷ 4 ∷ []) early-numbers r tt (read-numbers Plain Front input r e)
   refused-numbers (unchecked {r} {t} few reads c) =
       one-of-more (1 ∷ 7 ∷ 6 ∷ 5 ∷ []) early-numbers r tt (equations-numbers (t .l) (after-table input) r c)
 
@@ -231,7 +232,7 @@ module _ (input : List ℕ) where
       go (bad r) = early r (refused-ends r .0) (refused-ends r .1)
       go (good {t} g) =
           let passed = equations-passed (t .l) (after-table input) (g .checked) in
-          by g (course (input-equations input) t (read-good Front input t (g .reads) .0) (passed .each))
+          by g (course (input-equations input) t (read-good Plain Front input t (g .reads) .0) (passed .each))
 
   -- ---- What is returned, and what is written
 
@@ -246,7 +247,7 @@ module _ (input : List ℕ) where
       go (good {t} g) =
           let passed = equations-passed (t .l) (after-table input) (g .checked) in
           rw (good-ends g .1)
-          (run-most t (after-table input) (read-good Front input t (g .reads) .0) (passed .sizes))
+          (run-most t (after-table input) (read-good Plain Front input t (g .reads) .0) (passed .sizes))
 
   -- the code of a run is at most 8
   code-most : input-run input .code ≤ 8

@@ -32,6 +32,7 @@ code-positive R.Full = refl
 code-positive R.Narrow = refl
 code-positive R.Unlike = refl
 code-positive R.Keep = refl
+code-positive R.Digit = refl
 
 module _ (code : ℕ) where
   -- The word, the number and a newline.

@@ -13,6 +13,7 @@ use Rattle.tables.specs.declared.Answer.the-variants.{Accepted, Refused}
 use Rattle.tables.specs.declared.Answered.{Answered}
 use Rattle.tables.specs.Refusals.{refusal-number, if-accepted}
 use Rattle.tables.specs.Values.{accepts, GoodTable}
+use Rattle.forms.specs.declared.Layout.the-variants.{Plain}
 use Rattle.forms.specs.declared.Extent.the-variants.{Front}
 use Rattle.forms.specs.TableForms.{second-size, table-length, fits, read-table}
 use Rattle.forms.specs.EquationForms.{equations-in, check-equations}
@@ -103,13 +104,13 @@ module _ (input : List ℕ) where
 
       -- A table that reads is good.
       pub input-good : GoodTable (a .table)
-      input-good = read-good Front input (a .table) reads .0
+      input-good = read-good Plain Front input (a .table) reads .0
 
       -- the table's form is there
       pub input-room : 4 + 4 * second-size input ≤ length input
       unfolding fits
       input-room = leb-true (table-length (second-size input)) (length input)
-          (reads-passed Front input (accepts (a .table)) refl reads .0 .long)
+          (reads-passed Plain Front input (accepts (a .table)) refl reads .0 .long)
 
       -- Then the rest decides.
       pub input-goes : (run-on 0 (a .table) (after-table input) ≡ input-run input)

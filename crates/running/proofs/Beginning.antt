@@ -8,6 +8,7 @@ use Rattle.tables.specs.declared.Answered.{Answered}
 use Rattle.tables.specs.Refusals.{refusal-number, if-accepted}
 use Rattle.tables.specs.Values.{accepts}
 use Rattle.tables.proofs.Checking.{width-most}
+use Rattle.forms.specs.declared.Layout.the-variants.{Plain}
 use Rattle.forms.specs.declared.Extent.the-variants.{Whole}
 use Rattle.forms.specs.TableForms.{read-table}
 use Rattle.forms.specs.EquationForms.{equations-in, check-equations}
@@ -18,7 +19,7 @@ use Rattle.running.specs.States.{none-applied, run-from, run-on, run-sta
 pub read-few : (b : List ℕ) {a : Answered} → a ≡ read-table Whole b → a .answer ≡ Accepted → a .table .l ≤ 16
 read-few b {a} is e =
     let good : a ≡ accepts (a .table) = λ i. record { answer = e i; table = a .table } in
-    width-most (a .table .l) (read-good Whole b (a .table) (sym is ∙ good) .0 .width)
+    width-most (a .table .l) (read-good Plain Whole b (a .table) (sym is ∙ good) .0 .width)
 
 module _ (side : ℕ) (b q : List ℕ) {a : Answered} (is : a ≡ read-table Whole b) where
   -- the run, from what was read

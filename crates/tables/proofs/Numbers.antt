@@ -101,7 +101,7 @@ check-numbers t =
 numbered-answers : List Answer
 numbered-answers =
     Accepted ∷ Refused R.Torn ∷ Refused R.Width ∷ Refused R.Entries ∷ Refused R.Stray ∷ Refused R.Name ∷ Refused R.Term
-    ∷ Refused R.Long ∷ Refused R.Full ∷ Refused R.Narrow ∷ Refused R.Unlike ∷ Refused R.Keep ∷ []
+    ∷ Refused R.Long ∷ Refused R.Full ∷ Refused R.Narrow ∷ Refused R.Unlike ∷ Refused R.Keep ∷ Refused R.Digit ∷ []
 
 answer-back : (a : Answer) → getD numbered-answers (answer-number a) Accepted ≡ a
 unfolding numbered-answers
@@ -117,6 +117,7 @@ answer-back (Refused R.Full) = refl
 answer-back (Refused R.Narrow) = refl
 answer-back (Refused R.Unlike) = refl
 answer-back (Refused R.Keep) = refl
+answer-back (Refused R.Digit) = refl
 
 -- Answers with the same number are the same.
 pub same-answer : (a b : Answer) → answer-number a ≡ answer-number b → a ≡ b

@@ -31,6 +31,7 @@ pub enum Refusal {
     Narrow,
     Unlike,
     Keep,
+    Digit,
 }
 
 // What a call answers.
@@ -61,6 +62,7 @@ pub fn refusal_number(r: Refusal) -> u32
         Refusal::Narrow => 9,
         Refusal::Unlike => 10,
         Refusal::Keep => 11,
+        Refusal::Digit => 12,
     }
 }
 

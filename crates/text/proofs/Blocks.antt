@@ -69,3 +69,4 @@ code-small R.Full = omega arith
 code-small R.Narrow = omega arith
 code-small R.Unlike = omega arith
 code-small R.Keep = omega arith
+code-small R.Digit = omega arith

@@ -104,7 +104,7 @@ ones-next : (n : ℕ) → 2 ^ suc n - 1 ≡ (2 ^ n - 1) * 2 + 1
 ones-next n = omega (arith, pow-suc 2 n, pow-pos n)
 
 -- both halves, position by position
-zero-halves : (s : Trits) → (eqb (value-of s) 0 && eqb (zeros-of s) (2 ^ length s - 1)) ≡ all-zero s
+pub zero-halves : (s : Trits) → (eqb (value-of s) 0 && eqb (zeros-of s) (2 ^ length s - 1)) ≡ all-zero s
 unfolding all-zero zeros-of value-of
 zero-halves [] = refl
 zero-halves (t ∷ s) =
