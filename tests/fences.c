@@ -19,9 +19,13 @@
 #include "sharing.h"
 
 /* The calls, numbered as in the stream. */
-enum call { READ, CONVERT, CHANGE_SIDE, EQUATION, JOIN, PROJECT, EQUAL, GROUND, INDEPENDENT, SMALLER, RUN, START, STEP, WRITE, CALLS };
-static const char *const names[CALLS] = {"read",   "convert",     "change_side", "equation", "join",  "project", "equal",
-                                         "ground", "independent", "smaller",     "run",      "start", "step",    "write"};
+enum call {
+    READ, PACK, UNPACK, CONVERT, CHANGE_SIDE, EQUATION, JOIN, PROJECT,
+    EQUAL, GROUND, INDEPENDENT, SMALLER, RUN, START, STEP, WRITE, CALLS
+};
+static const char *const names[CALLS] = {
+    "read",  "pack",   "unpack",      "convert", "change_side", "equation", "join", "project",
+    "equal", "ground", "independent", "smaller", "run",         "start",    "step", "write"};
 
 struct row { uint32_t len; uint8_t *bytes; };
 
@@ -104,7 +108,7 @@ static void protect(enum role role, int how)
 /* The fields of a state, as the stream has them: the struct has padding, which counts for nothing. */
 enum { STATE_BYTES = 4 * 4 + 8 + 2 * 4 * 256 };
 
-static void unpack(sharing_running *state, const uint8_t *bytes)
+static void fill_state(sharing_running *state, const uint8_t *bytes)
 {
     uint64_t n;
     memset(state, 0, sizeof *state);
@@ -121,7 +125,7 @@ static void unpack(sharing_running *state, const uint8_t *bytes)
 static int same_state(const sharing_running *state, const uint8_t *bytes)
 {
     sharing_running other;
-    unpack(&other, bytes);
+    fill_state(&other, bytes);
     return state->code == other.code && state->side == other.side && state->applied == other.applied &&
            state->table.l == other.table.l && state->table.n == other.table.n &&
            memcmp(state->table.care, other.table.care, sizeof other.table.care) == 0 &&
@@ -136,6 +140,8 @@ static uint32_t make_call(const struct record *r, const struct lent *m)
     size_t first = r->first.len, second = r->second.len, out = r->held.len;
     switch (r->call) {
     case READ: return sharing_read(m->first, first, m->out, out);
+    case PACK: return sharing_pack(m->first, first, m->out, out);
+    case UNPACK: return sharing_unpack(m->first, first, m->out, out);
     case CONVERT: return sharing_convert(r->word, (const uint32_t *)(void *)m->first, first / 4, m->out, out);
     case CHANGE_SIDE: return sharing_change_side(r->side, m->first, first, m->out, out);
     case EQUATION: return sharing_equation(r->side, m->first, first, r->word, m->second, second, m->out, out);
@@ -175,7 +181,7 @@ static void run_placed(const struct record *r)
     sharing_running state;
     memset(&state, 0x5a, sizeof state);
     if (r->state.len == STATE_BYTES)
-        unpack(&state, r->state.bytes);
+        fill_state(&state, r->state.bytes);
     struct lent m;
     m.first = place(FIRST, r->first.bytes, r->first.len);
     m.second = place(SECOND, r->second.bytes, r->second.len);

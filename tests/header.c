@@ -14,10 +14,14 @@
 CHECK(answers, SHARING_ACCEPTED == 0 && SHARING_TORN == 1 && SHARING_WIDTH == 2 &&
                    SHARING_ENTRIES == 3 && SHARING_STRAY == 4 && SHARING_NAME == 5 &&
                    SHARING_TERM == 6 && SHARING_LONG == 7 && SHARING_FULL == 8 &&
-                   SHARING_NARROW == 9 && SHARING_UNLIKE == 10 && SHARING_KEEP == 11);
+                   SHARING_NARROW == 9 && SHARING_UNLIKE == 10 && SHARING_KEEP == 11 &&
+                   SHARING_DIGIT == 12);
 CHECK(limits, SHARING_MAX_VARIABLES == 16 && SHARING_MAX_ENTRIES == 256 &&
                   SHARING_MAX_EQUATIONS == 64 && SHARING_MAX_TOKENS == 1024);
 CHECK(longest_form, SHARING_MAX_FORM == 4 + 4 * SHARING_MAX_ENTRIES);
+CHECK(longest_packed,
+      SHARING_MAX_PACKED == 4 + (SHARING_MAX_VARIABLES + 4) / 5 * SHARING_MAX_ENTRIES &&
+          (int)SHARING_MAX_PACKED <= (int)SHARING_MAX_FORM);
 CHECK(sides, SHARING_POSITIVE == 0 && SHARING_NEGATIVE != 0);
 CHECK(table_layout, offsetof(sharing_table, n) == 8 && offsetof(sharing_table, care) == 16 &&
                         offsetof(sharing_table, value) == 1040 && sizeof(sharing_table) == 2064);
@@ -34,6 +38,8 @@ typedef uint32_t word;
 /* Visible outside this file, so that the linker must find every name. */
 struct calls {
     word (*read)(in, size_t, out, size_t);
+    word (*pack)(in, size_t, out, size_t);
+    word (*unpack)(in, size_t, out, size_t);
     word (*convert)(word, const uint32_t *, size_t, out, size_t);
     word (*change_side)(word, in, size_t, out, size_t);
     word (*equation)(word, in, size_t, word, in, size_t, out, size_t);
@@ -47,10 +53,10 @@ struct calls {
     sharing_running (*start)(word, in, size_t);
     word (*step)(sharing_running *, word, in, size_t);
     word (*write)(const sharing_running *, out, size_t);
-} calls = {sharing_read,        sharing_convert, sharing_change_side, sharing_equation,
-           sharing_join,        sharing_project, sharing_equal,       sharing_ground,
-           sharing_independent, sharing_smaller, sharing_run,         sharing_start,
-           sharing_step,        sharing_write};
+} calls = {sharing_read,        sharing_pack,     sharing_unpack,      sharing_convert,
+           sharing_change_side, sharing_equation, sharing_join,        sharing_project,
+           sharing_equal,       sharing_ground,   sharing_independent, sharing_smaller,
+           sharing_run,         sharing_start,    sharing_step,        sharing_write};
 
 #if SHARING_VERSION_MAJOR < 0 || SHARING_VERSION_MINOR < 0 || SHARING_VERSION_PATCH < 0
 #error "the preprocessor cannot compare the version"

@@ -16,15 +16,16 @@ enum { STACK = 1 << 20, FILL = 0x5a, KIB = 1024, UTIL = 16 };
 /* The input and the output of the call that is measured. */
 static uint8_t table[SHARING_MAX_FORM], other[SHARING_MAX_FORM], out[SHARING_MAX_FORM];
 static uint8_t term[2 * SHARING_MAX_TOKENS], equations[8 + 2 * SHARING_MAX_TOKENS];
-static size_t table_len, term_len;
+static uint8_t packed[SHARING_MAX_PACKED];
+static size_t table_len, packed_len, term_len;
 static uint32_t side, code, answer;
 static sharing_running state;
 static int number;
 
 /* The calls with a term, the others, and functions of sharing_util.h. */
 enum { EQUATION, RUN, STEP, WITH_TERM };
-enum { READ = WITH_TERM, CONVERT, SIDES, JOIN, PROJECT, EQUAL, GROUND, INDEPENDENT, START, WRITE,
-       WITHOUT_TERM };
+enum { READ = WITH_TERM, PACK, UNPACK, CONVERT, SIDES, JOIN, PROJECT, EQUAL, GROUND, INDEPENDENT,
+       START, WRITE, WITHOUT_TERM };
 enum { SELECT = WITHOUT_TERM, UNKNOWN, KNOWN, CALLS };
 
 /* The call by its number. */
@@ -37,6 +38,8 @@ static void *call(void *unused) {
     case RUN: state = sharing_run(side, t, n, equations, 8 + term_len); code = state.code; break;
     case STEP: code = sharing_step(&state, 1, term, term_len); break;
     case READ: code = sharing_read(t, n, out, o); break;
+    case PACK: code = sharing_pack(t, n, out, o); break;
+    case UNPACK: code = sharing_unpack(packed, packed_len, out, o); break;
     case CONVERT: code = sharing_convert(16, words, 16, out, o); break;
     case SIDES: code = sharing_change_side(side, t, n, out, o); break;
     case JOIN: code = sharing_join(side, t, n, t, n, out, o); break;
@@ -117,6 +120,9 @@ static size_t most_without(unsigned char *stack, int first, int last) {
             exit(EXIT_FAILURE);
         table_len = sharing_form_length(n);
         memcpy(other, table, sizeof table);
+        if (sharing_pack(table, table_len, packed, sizeof packed) != SHARING_ACCEPTED)
+            exit(EXIT_FAILURE);
+        packed_len = sharing_packed_front(packed, sizeof packed);
         for (side = 0; side < 2; side++)
             for (number = first; number < last; number++) {
                 state = sharing_start(side, table, table_len);

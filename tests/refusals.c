@@ -108,6 +108,7 @@ static void refuse_table(bad_form bad) {
     const uint8_t *form = bad.bytes;
     size_t len = bad.len;
     EXPECT(bad.due, sharing_read(form, len, out, 0));
+    EXPECT(bad.due, sharing_pack(form, len, out, 0));
     EXPECT(bad.due, sharing_change_side(1, form, len, out, 0));
     EXPECT(bad.due, sharing_equation(0, form, len, FAR, BYTES(zeros), out, 0));
     EXPECT(bad.due, sharing_join(1, form, len, zeros, 3, out, 0));
@@ -126,6 +127,31 @@ static void refuse_table(bad_form bad) {
     sharing_running ran = sharing_run(0, form, len, zeros, 3);
     EXPECT(bad.due, ran.code);
     HOLDS(is_zero(&ran));
+}
+
+/* The refusals of a packed form; `packed` is the table `good`. */
+static void refuse_packed(void) {
+    static const uint8_t packed[] = {WORD(3), WORD(3), 1, 3 + 2 * 9, 2 * 3 + 9};
+    static const uint8_t short_row[] = {WORD(6), WORD(1), 255};
+    static const uint8_t long_row[] = {WORD(5), WORD(1), 255, 0};
+    static const uint8_t byte_243[] = {WORD(5), WORD(2), 242, 243};
+    static const uint8_t byte_255[] = {WORD(6), WORD(1), 255, 0};
+    static const uint8_t unused_1[] = {WORD(4), WORD(2), 81, 80};
+    static const uint8_t unused_2[] = {WORD(6), WORD(1), 242, 6};
+    const bad_form bad[] = {{BYTES(no_sizes), SHARING_TORN},  {BYTES(width_17), SHARING_WIDTH},
+                            {BYTES(width_0), SHARING_WIDTH},  {BYTES(entries_257), SHARING_ENTRIES},
+                            {BYTES(short_row), SHARING_TORN}, {BYTES(long_row), SHARING_TORN},
+                            {BYTES(byte_243), SHARING_DIGIT}, {BYTES(byte_255), SHARING_DIGIT},
+                            {BYTES(unused_1), SHARING_DIGIT}, {BYTES(unused_2), SHARING_DIGIT}};
+    for (size_t i = 0; i < COUNT(bad); i++)
+        EXPECT(bad[i].due, sharing_unpack(bad[i].bytes, bad[i].len, out, 0));
+    EXPECT(SHARING_NARROW, sharing_pack(BYTES(good), out, sizeof packed - 1));
+    EXPECT(SHARING_NARROW, sharing_unpack(BYTES(packed), out, sizeof good - 1));
+    HOLDS(sharing_pack(BYTES(good), out, sizeof packed) == SHARING_ACCEPTED &&
+          memcmp(out, packed, sizeof packed) == 0);
+    HOLDS(sharing_unpack(BYTES(packed), out, sizeof good) == SHARING_ACCEPTED &&
+          memcmp(out, good, sizeof good) == 0);
+    clear_outputs();
 }
 
 /* The refusals of an equation, of one call and of a step, which keeps its whole state. */
@@ -286,6 +312,7 @@ int main(void) {
     clear_outputs();
     for (size_t i = 0; i < COUNT(bad_tables); i++)
         refuse_table(bad_tables[i]);
+    refuse_packed();
     for (size_t i = 0; i < COUNT(bad_equations); i++)
         refuse_equation(bad_equations[i]);
     refuse_equations();

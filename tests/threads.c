@@ -14,7 +14,7 @@ enum { THREADS = 8, ROUNDS = 200, TABLES = 24, L = 7 };
 typedef struct { uint8_t bytes[SHARING_MAX_FORM]; } form;
 
 /* All that the calls give for one table and the next. */
-typedef struct { uint32_t codes[8]; form forms[5]; uint32_t answers[3]; } result;
+typedef struct { uint32_t codes[10]; form forms[7]; uint32_t answers[3]; } result;
 
 static form tables[TABLES];
 static result due[TABLES];
@@ -38,6 +38,10 @@ static void calls(size_t i, result *got) {
     got->codes[5] = sharing_independent(i % 2, one, one_len, 0x3, 0x70, &got->answers[1]);
     got->codes[6] = sharing_step(&state, 2, term, term_len);
     got->codes[7] = sharing_write(&state, got->forms[4].bytes, sizeof(form));
+    got->codes[8] = sharing_pack(one, one_len, got->forms[5].bytes, sizeof(form));
+    got->codes[9] = sharing_unpack(got->forms[5].bytes,
+                                   sharing_packed_front(got->forms[5].bytes, sizeof(form)),
+                                   got->forms[6].bytes, sizeof(form));
     got->answers[2] = state.applied;
 }
 
@@ -78,6 +82,6 @@ int main(void) {
             return EXIT_FAILURE;
         }
     }
-    printf("%d threads, %d calls each\n", THREADS, ROUNDS * TABLES * 9);
+    printf("%d threads, %d calls each\n", THREADS, ROUNDS * TABLES * 12);
     return EXIT_SUCCESS;
 }

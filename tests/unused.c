@@ -12,6 +12,8 @@ sharing_entry e;
 
 int main(void) {
     sharing_read(b, 4, o, 4);
+    sharing_pack(b, 4, o, 4);
+    sharing_unpack(b, 4, o, 4);
     sharing_convert(1, w, 1, o, 4);
     sharing_change_side(0, b, 4, o, 4);
     sharing_equation(0, b, 4, 1, b, 4, o, 4);

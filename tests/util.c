@@ -115,9 +115,28 @@ static void lengths(void) {
     memset(out, FILL, sizeof out);
 }
 
-/* A form, often with one fault or cut short or followed by more, and its length as given. */
-static form doubtful_form(void) {
-    form made = random_form(1 + any(16), any(6));
+/* The same for packed forms and sharing_unpack. */
+static void packed_lengths(void) {
+    static uint8_t zeros[SHARING_MAX_PACKED + 8];
+    const uint32_t counts[] = {0, 1, 2, 3, 17, 100, 255, 256, 257, 512, 65535};
+    for (uint32_t l = 0; l <= SHARING_MAX_VARIABLES + 1; l++)
+        for (size_t i = 0; i < COUNT(counts); i++) {
+            size_t length = sharing_packed_length(l, counts[i]);
+            int good = l >= 1 && l <= SHARING_MAX_VARIABLES && counts[i] <= SHARING_MAX_ENTRIES;
+            sharing_put_word(zeros, 0, l);
+            sharing_put_word(zeros, 1, counts[i]);
+            HOLDS((length != 0) == good && length <= SHARING_MAX_PACKED);
+            for (size_t at = 0; at < sizeof zeros; at++) {
+                uint32_t code = sharing_unpack(zeros, at, out, sizeof out);
+                HOLDS((code == SHARING_ACCEPTED) == (good && at == length));
+            }
+        }
+    HOLDS(sharing_packed_length(SHARING_MAX_VARIABLES, SHARING_MAX_ENTRIES) == SHARING_MAX_PACKED);
+    memset(out, FILL, sizeof out);
+}
+
+/* A form, now often with one fault or cut short or followed by more, and its length as given. */
+static form doubtful(form made) {
     if (any(3) == 0)
         made.bytes[any(4)] = (uint8_t)(any(3) * 8);
     if (any(3) == 0)
@@ -129,9 +148,9 @@ static form doubtful_form(void) {
 
 /* The check answers as sharing_read does, the front length as sharing_smaller. */
 static void doubtful_forms(void) {
-    unsigned seen[SHARING_KEEP + 1] = {0};
+    unsigned seen[SHARING_DIGIT + 1] = {0};
     for (int round = 0; round < 20 * ROUNDS; round++) {
-        form one = doubtful_form(), copy = one;
+        form one = doubtful(random_form(1 + any(16), any(6))), copy = one;
         sharing_part part = {one.bytes, 0};
         uint32_t code = sharing_read(one.bytes, one.len, out, sizeof out);
         HOLDS(sharing_check(one.bytes, one.len) == code);
@@ -142,6 +161,33 @@ static void doubtful_forms(void) {
     }
     HOLDS(seen[SHARING_ACCEPTED] && seen[SHARING_TORN] && seen[SHARING_WIDTH] &&
           seen[SHARING_ENTRIES] && seen[SHARING_STRAY]);
+}
+
+/* The packed form of a random table. */
+static form random_packed(void) {
+    form made = random_form(1 + any(16), any(6)), packed;
+    memset(&packed, 0, sizeof packed);
+    HOLDS(sharing_pack(made.bytes, made.len, packed.bytes, sizeof packed.bytes) == 0);
+    packed.len = sharing_packed_front(packed.bytes, sizeof packed.bytes);
+    HOLDS(packed.len == sharing_packed_length(packed.bytes[0], packed.bytes[2]));
+    return packed;
+}
+
+/* The front of a packed form is the part that sharing_unpack takes, if there is one. */
+static void doubtful_packed(void) {
+    unsigned seen[SHARING_DIGIT + 1] = {0};
+    for (int round = 0; round < 5 * ROUNDS; round++) {
+        form one = doubtful(random_packed());
+        size_t due = 0;
+        for (size_t at = 0; at <= one.len; at++)
+            if (sharing_unpack(one.bytes, at, out, sizeof out) == SHARING_ACCEPTED)
+                due = at;
+        HOLDS(sharing_packed_front(one.bytes, one.len) == due);
+        seen[sharing_unpack(one.bytes, one.len, out, sizeof out)]++;
+        memset(out, FILL, sizeof out);
+    }
+    HOLDS(seen[SHARING_ACCEPTED] && seen[SHARING_TORN] && seen[SHARING_WIDTH] &&
+          seen[SHARING_ENTRIES] && seen[SHARING_DIGIT]);
 }
 
 /* A form made from entries is the bytes of the rule, and gives them back; sharing_start agrees. */
@@ -638,7 +684,7 @@ static void refused_goals(void) {
 
 /* The words of the answers, for tests/c to compare with the header. */
 static int print_words(void) {
-    for (uint32_t code = 0; code <= SHARING_KEEP + 1; code++)
+    for (uint32_t code = 0; code <= SHARING_DIGIT + 1; code++)
         printf("%u %s: %s\n", (unsigned)code, sharing_refusal_word(code),
                sharing_refusal_sentence(code));
     return strcmp(sharing_refusal_word(UINT32_MAX), "unknown");
@@ -649,7 +695,9 @@ int main(int count, char **words) {
         return print_words();
     memset(out, FILL, sizeof out);
     lengths();
+    packed_lengths();
     doubtful_forms();
+    doubtful_packed();
     made_forms();
     refused_forms();
     texts();

@@ -7,6 +7,8 @@ pub trait Calls {
     type State;
 
     fn read(table: &[u8], out: &mut [u8]) -> u32;
+    fn pack(table: &[u8], out: &mut [u8]) -> u32;
+    fn unpack(packed: &[u8], out: &mut [u8]) -> u32;
     fn convert(l: u32, groups: &[u32], out: &mut [u8]) -> u32;
     fn change_side(side: u32, table: &[u8], out: &mut [u8]) -> u32;
     fn start(side: u32, table: &[u8]) -> Self::State;

@@ -60,6 +60,14 @@ fn perform<C: Calls>(input: &Input, out: &mut [u8], mut see: impl FnMut(u32, Lef
             let number = C::read(table, out);
             see(number, Left::Output(out));
         }
+        Input::Pack { table } => {
+            let number = C::pack(table, out);
+            see(number, Left::Output(out));
+        }
+        Input::Unpack { packed } => {
+            let number = C::unpack(packed, out);
+            see(number, Left::Output(out));
+        }
         Input::Convert { l, groups } => {
             let number = C::convert(*l, groups, out);
             see(number, Left::Output(out));
@@ -149,13 +157,14 @@ fn reference_answer(input: &Input) -> Option<u32> {
 }
 
 /// The time that each side takes for one pass over some inputs, in a round of about this length.
-pub fn times(inputs: &[Input], long: Duration) -> Times {
-    let [mut ours, mut plain] = [[0; LONGEST]; 2];
-    least(
-        long,
-        || turn::<Ours>(inputs, &mut ours),
-        || turn::<Plain>(inputs, &mut plain),
-    )
+/// The other side is plain Rust, or ours on the reads where they are given.
+pub fn times(inputs: &[Input], reads: Option<&[Input]>, long: Duration) -> Times {
+    let [mut out, mut other_out] = [[0; LONGEST]; 2];
+    let ours = || turn::<Ours>(inputs, &mut out);
+    match reads {
+        None => least(long, ours, || turn::<Plain>(inputs, &mut other_out)),
+        Some(reads) => least(long, ours, || turn::<Ours>(reads, &mut other_out)),
+    }
 }
 
 /// One pass over some inputs, with one output for all of them.

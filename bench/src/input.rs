@@ -2,7 +2,7 @@
 
 use reference::forms::{bytes_of, table_length, write_table};
 use reference::{Entry, Equation, Refusal, Side, Table};
-use support::tables::form_entries;
+use support::tables::{form_entries, packed};
 
 use crate::questions::{Equality, Independence, Question};
 
@@ -10,6 +10,10 @@ use crate::questions::{Equality, Independence, Question};
 pub enum Input {
     /// A form that is read, which grows its strings in order.
     Read { table: Vec<u8> },
+    /// A form that is read and packed.
+    Pack { table: Vec<u8> },
+    /// A packed form that is read.
+    Unpack { packed: Vec<u8> },
     /// Groups that are converted, in order.
     Convert { l: u32, groups: Vec<u32> },
     /// A positive table that is changed to negative.
@@ -40,6 +44,16 @@ impl Input {
     pub fn read(l: u32, strings: &[Entry]) -> Result<Input, Refusal> {
         let table = form(l, strings)?;
         Ok(Input::Read { table })
+    }
+
+    pub fn pack(table: &Table) -> Result<Input, Refusal> {
+        let table = form(table.l, &table.entries)?;
+        Ok(Input::Pack { table })
+    }
+
+    pub fn unpack(table: &Table) -> Result<Input, Refusal> {
+        let packed = packed(table);
+        Ok(Input::Unpack { packed })
     }
 
     pub fn change_side(table: &Table) -> Result<Input, Refusal> {
@@ -78,6 +92,8 @@ impl Input {
         match self {
             Input::Convert { groups, .. } => groups.len(),
             Input::Read { table }
+            | Input::Pack { table }
+            | Input::Unpack { packed: table }
             | Input::ChangeSide { table }
             | Input::Chain(Chain { table, .. })
             | Input::Equal { first: table, .. }

@@ -36,6 +36,9 @@ const LATER_SEED: u64 = 0x6A09_E667_F3BC_C908;
 /// The same for the rows of 16 variables; this is the fraction of the root of 3.
 const WIDER_SEED: u64 = 0xBB67_AE85_84CA_A73B;
 
+/// The same for the rows of packed forms; this is the fraction of the root of 5.
+const PACKED_SEED: u64 = 0x3C6E_F372_FE94_F82B;
+
 /// The bound of a row, as a multiple of its goal: least times, too, differ from run to run.
 const MARGIN: f64 = 1.25;
 
@@ -47,6 +50,9 @@ pub struct Row {
     /// The part above which `--check` fails.
     pub bound: f64,
     pub inputs: Vec<Input>,
+    /// For each input that reads or writes a packed form, the read of the same table's plain form,
+    /// with which ours is compared too.
+    pub reads: Option<Vec<Input>>,
 }
 
 impl Row {
@@ -60,6 +66,7 @@ impl Row {
             goal,
             bound: MARGIN * goal,
             inputs: inputs.into_iter().collect::<Result<_, _>>()?,
+            reads: None,
         })
     }
 
@@ -67,10 +74,20 @@ impl Row {
     fn bounded(self, bound: f64) -> Row {
         Row { bound, ..self }
     }
+
+    /// The row with reads of the tables of its inputs.
+    fn beside_reading(self, tables: &[Table]) -> Result<Row, Refusal> {
+        let read = |table: &Table| Input::read(table.l, &table.entries);
+        let reads = tables.iter().map(read).collect::<Result<_, _>>()?;
+        Ok(Row {
+            reads: Some(reads),
+            ..self
+        })
+    }
 }
 
 /// All rows: growing by rising density of stars, converting, changes of side, one equation, chains
-/// of equations, the questions.
+/// of equations, the questions, packed forms.
 pub fn rows() -> Result<Vec<Row>, Refusal> {
     let mut random = Random::from_state(SEED);
     let mut later = Random::from_state(LATER_SEED);
@@ -97,6 +114,7 @@ pub fn rows() -> Result<Vec<Row>, Refusal> {
             rows.push(asking(&sort)?);
         }
     }
+    rows.extend(packing(&mut Random::from_state(PACKED_SEED))?);
     Ok(rows)
 }
 
@@ -213,4 +231,27 @@ fn asking(sort: &Sort) -> Result<Row, Refusal> {
     let inputs = sort.questions.iter().map(Input::question);
     let row = Row::new(sort.name.clone(), sort.bound, inputs)?;
     Ok(row.bounded(sort.bound))
+}
+
+/// What makes an input of a table.
+type MakeInput = fn(&Table) -> Result<Input, Refusal>;
+
+/// The calls on packed forms.
+const PACKING: [(&str, MakeInput); 2] = [("packing", Input::pack), ("unpacking", Input::unpack)];
+
+/// Both calls on tables of which reading drops no entry.
+fn packing(random: &mut Random) -> Result<Vec<Row>, Refusal> {
+    let mut rows = Vec::new();
+    for l in [L, VARIABLES] {
+        for count in [1, 32, ENTRIES] {
+            let fixed = l as usize / 2..=l as usize;
+            let tables = tables::wide_strings(random, l, count, fixed)?;
+            for (call, input) in PACKING {
+                let name = format!("{call} {count} of {l}");
+                let row = Row::new(name, 1.00, tables.iter().map(input))?;
+                rows.push(row.beside_reading(&tables)?);
+            }
+        }
+    }
+    Ok(rows)
 }

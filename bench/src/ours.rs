@@ -17,6 +17,14 @@ impl Calls for Ours {
         unsafe { sharing_read(table.as_ptr(), table.len(), out.as_mut_ptr(), out.len()) }
     }
 
+    fn pack(table: &[u8], out: &mut [u8]) -> u32 {
+        unsafe { sharing_pack(table.as_ptr(), table.len(), out.as_mut_ptr(), out.len()) }
+    }
+
+    fn unpack(packed: &[u8], out: &mut [u8]) -> u32 {
+        unsafe { sharing_unpack(packed.as_ptr(), packed.len(), out.as_mut_ptr(), out.len()) }
+    }
+
     fn convert(l: u32, groups: &[u32], out: &mut [u8]) -> u32 {
         let (groups, len) = (groups.as_ptr(), groups.len());
         unsafe { sharing_convert(l, groups, len, out.as_mut_ptr(), out.len()) }

@@ -19,6 +19,14 @@ impl Calls for Plain {
         byte_calls::read(table, out)
     }
 
+    fn pack(table: &[u8], out: &mut [u8]) -> u32 {
+        byte_calls::pack(table, out)
+    }
+
+    fn unpack(packed: &[u8], out: &mut [u8]) -> u32 {
+        byte_calls::unpack(packed, out)
+    }
+
     fn convert(l: u32, groups: &[u32], out: &mut [u8]) -> u32 {
         byte_calls::convert(l, groups, out)
     }

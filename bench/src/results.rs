@@ -1,9 +1,9 @@
 //! The times of the rows: measured, printed and held to their bounds.
 
-use std::slice;
 use std::time::Duration;
 
 use crate::contest;
+use crate::input::Input;
 use crate::load::Row;
 use crate::timing::{rounds, Times};
 
@@ -16,20 +16,26 @@ const REPEATED: usize = 8;
 /// The same for one such input.
 const LONG_REPEATED: Duration = Duration::from_millis(100);
 
+/// What packing and unpacking may take, as a multiple of reading the plain form: goal and bound.
+const READING: f64 = 2.0;
+
 /// A row with its least times, of one pass over its inputs.
 pub struct Measured<'a> {
     row: &'a Row,
+    /// The reads that are the other side, where that is not plain Rust.
+    reads: Option<&'a [Input]>,
     /// The inputs take turns: a new one each time, as in use.
     in_turn: Times,
     /// Each of the first inputs again and again, whose branches the processor then knows.
     repeated: Vec<Times>,
 }
 
-impl Measured<'_> {
-    /// The row before its first round.
-    fn unknown(row: &Row) -> Measured<'_> {
+impl<'a> Measured<'a> {
+    /// The row before its first round, against plain Rust or against some reads.
+    fn unknown(row: &'a Row, reads: Option<&'a [Input]>) -> Measured<'a> {
         Measured {
             row,
+            reads,
             in_turn: Times::UNKNOWN,
             repeated: vec![Times::UNKNOWN; REPEATED],
         }
@@ -37,18 +43,28 @@ impl Measured<'_> {
 
     /// One more round.
     fn round(&mut self) {
-        self.in_turn = self.in_turn.min(contest::times(&self.row.inputs, LONG));
-        for (times, input) in self.repeated.iter_mut().zip(&self.row.inputs) {
-            *times = times.min(contest::times(slice::from_ref(input), LONG_REPEATED));
+        let inputs = &self.row.inputs;
+        self.in_turn = self.in_turn.min(contest::times(inputs, self.reads, LONG));
+        for (i, times) in self.repeated.iter_mut().enumerate() {
+            let read = self.reads.map(|reads| &reads[i..=i]);
+            *times = times.min(contest::times(&inputs[i..=i], read, LONG_REPEATED));
         }
     }
 
-    /// The time of ours as a part of the time of plain Rust, in turn and repeated.
+    /// What the ratios shall be, and above what `--check` fails.
+    fn goal_and_bound(&self) -> (f64, f64) {
+        match self.reads {
+            None => (self.row.goal, self.row.bound),
+            Some(_) => (READING, READING),
+        }
+    }
+
+    /// The time of ours as a part of the time of the other side, in turn and repeated.
     fn ratios(&self) -> [f64; 2] {
         let sum = |side: fn(&Times) -> f64| self.repeated.iter().map(side).sum::<f64>();
         [
             self.in_turn.ratio(),
-            sum(|times| times.ours) / sum(|times| times.plain),
+            sum(|times| times.ours) / sum(|times| times.other),
         ]
     }
 
@@ -58,32 +74,25 @@ impl Measured<'_> {
     }
 }
 
-/// Times the rows.
+/// Times the rows: all against plain Rust, and those that have reads against these too.
 pub fn measure(rows: &[Row]) -> Vec<Measured<'_>> {
-    let mut results: Vec<Measured> = rows.iter().map(Measured::unknown).collect();
+    let plain = rows.iter().map(|row| Measured::unknown(row, None));
+    let beside = rows.iter().filter(|row| row.reads.is_some());
+    let reading = beside.map(|row| Measured::unknown(row, row.reads.as_deref()));
+    let mut results: Vec<Measured> = plain.chain(reading).collect();
     rounds(&mut results, Measured::round);
     results
 }
 
-/// Prints a line for each row, in microseconds for one input in turn, and last how many rows reach
-/// their goal.
+/// Prints the rows against plain Rust, those against reading, and last how many reach their goal.
 pub fn print(results: &[Measured]) {
-    println!(
-        "{:<32} {:>9} {:>9} {:>7} {:>8} {:>5} {:>5}",
-        "row", "plain us", "ours us", "in turn", "repeated", "goal", "bound"
-    );
-    for result in results {
-        let row = result.row;
-        let [plain, ours] = result.in_turn.microseconds(row.inputs.len());
-        let [in_turn, repeated] = result.ratios();
-        println!(
-            "{:<32} {plain:>9.3} {ours:>9.3} {in_turn:>7.3} {repeated:>8.3} {:>5.2} {:>5.2}",
-            row.name, row.goal, row.bound
-        );
-    }
+    let (plain, reading): (Vec<_>, Vec<_>) =
+        results.iter().partition(|result| result.reads.is_none());
+    print_lines("plain us", &plain);
+    print_lines("read us", &reading);
     let reached = results
         .iter()
-        .filter(|result| result.worst() <= result.row.goal);
+        .filter(|result| result.worst() <= result.goal_and_bound().0);
     println!(
         "{} of {} rows reach their goal",
         reached.count(),
@@ -91,17 +100,35 @@ pub fn print(results: &[Measured]) {
     );
 }
 
+/// Prints a line for each row, in microseconds for one input in turn.
+fn print_lines(other: &str, results: &[&Measured]) {
+    println!(
+        "{:<32} {other:>9} {:>9} {:>7} {:>8} {:>5} {:>5}",
+        "row", "ours us", "in turn", "repeated", "goal", "bound"
+    );
+    for result in results {
+        let row = result.row;
+        let [other, ours] = result.in_turn.microseconds(row.inputs.len());
+        let [in_turn, repeated] = result.ratios();
+        let (goal, bound) = result.goal_and_bound();
+        println!(
+            "{:<32} {other:>9.3} {ours:>9.3} {in_turn:>7.3} {repeated:>8.3} {goal:>5.2} {bound:>5.2}",
+            row.name
+        );
+    }
+}
+
 /// A line for each row of which a ratio is above its bound.
 pub fn above_bounds(results: &[Measured]) -> Vec<String> {
     let above = results
         .iter()
-        .filter(|result| result.worst() > result.row.bound);
-    above
-        .map(|result| above_bound(&result.row.name, result.worst()))
-        .collect()
+        .filter(|result| result.worst() > result.goal_and_bound().1);
+    above.map(above_bound).collect()
 }
 
 /// The line of one row.
-pub fn above_bound(name: &str, ratio: f64) -> String {
-    format!("{name} is above its bound: {ratio:.4}")
+fn above_bound(result: &Measured) -> String {
+    let other = result.reads.map_or("", |_| ", beside reading,");
+    let (name, ratio) = (&result.row.name, result.worst());
+    format!("{name}{other} is above its bound: {ratio:.4}")
 }

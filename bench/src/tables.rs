@@ -36,8 +36,8 @@ pub fn changed(tables: &[Table]) -> Tables {
     tables.iter().map(operations::change_side).collect()
 }
 
-/// Positive tables of so many strings with few positions fixed. Of 40 strings of 12 variables with
-/// three or four positions fixed 67 to 75 % are `*`, and the change of side leaves some 27 entries
+/// Positive tables of so many entries, each with so many positions fixed. Of 40 strings of 12
+/// variables with three or four positions fixed 67 to 75 % are `*`, and the change of side leaves some 27 entries
 /// (median) and is full for 6 of 64; with up to five positions fixed it would be full for half of
 /// them.
 pub fn wide_strings(

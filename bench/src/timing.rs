@@ -18,31 +18,32 @@ const SAMPLE: Duration = Duration::from_micros(10);
 #[derive(Clone, Copy)]
 pub struct Times {
     pub ours: f64,
-    pub plain: f64,
+    /// Plain Rust, or what else ours is timed against.
+    pub other: f64,
 }
 
 impl Times {
     /// What is known before the first round.
     pub const UNKNOWN: Times = Times {
         ours: f64::INFINITY,
-        plain: f64::INFINITY,
+        other: f64::INFINITY,
     };
 
-    /// The time of ours as a part of the time of plain Rust.
+    /// The time of ours as a part of the time of the other side.
     pub fn ratio(self) -> f64 {
-        self.ours / self.plain
+        self.ours / self.other
     }
 
-    /// The microseconds of plain Rust and of ours for one of so many inputs.
+    /// The microseconds of the other side and of ours for one of so many inputs.
     pub fn microseconds(self, inputs: usize) -> [f64; 2] {
-        [self.plain, self.ours].map(|seconds| seconds * 1e6 / inputs as f64)
+        [self.other, self.ours].map(|seconds| seconds * 1e6 / inputs as f64)
     }
 
     /// The lesser time of each side.
     pub fn min(self, other: Times) -> Times {
         Times {
             ours: self.ours.min(other.ours),
-            plain: self.plain.min(other.plain),
+            other: self.other.min(other.other),
         }
     }
 }
@@ -58,20 +59,20 @@ pub fn rounds<T>(timed: &mut [T], mut round: impl FnMut(&mut T)) {
 /// One round: the least time of each side. The samples alternate, so that a slow spell of the
 /// machine falls on both; the least one is what the call takes where nothing disturbs it. The
 /// round ends at the latest once a side has taken `long`.
-pub fn least(long: Duration, ours: impl FnMut(), plain: impl FnMut()) -> Times {
+pub fn least(long: Duration, ours: impl FnMut(), other: impl FnMut()) -> Times {
     let mut ours = Side::new(ours);
-    let mut plain = Side::new(plain);
+    let mut other = Side::new(other);
     let mut samples = 0;
-    while ours.spent.max(plain.spent) < long
-        && (samples < SAMPLES || ours.spent < TIME || plain.spent < TIME)
+    while ours.spent.max(other.spent) < long
+        && (samples < SAMPLES || ours.spent < TIME || other.spent < TIME)
     {
         ours.sample();
-        plain.sample();
+        other.sample();
         samples += 1;
     }
     Times {
         ours: ours.seconds(),
-        plain: plain.seconds(),
+        other: other.seconds(),
     }
 }
 

@@ -3,6 +3,7 @@
 
 use crate::forms::{read_front, read_table, read_tokens, write_table};
 use crate::operations;
+use crate::packed::{read_packed, write_packed};
 use crate::questions;
 use crate::refusal::{number_of, Refusal};
 use crate::table::{Side, Table};
@@ -30,6 +31,16 @@ fn read_two(first: &[u8], second: &[u8]) -> Result<(Table, Table), Refusal> {
 /// Reads a form, which grows its entries, and writes it again.
 pub fn read(table: &[u8], out: &mut [u8]) -> u32 {
     hand_back(read_table(table), out)
+}
+
+/// Reads a form and writes the packed form.
+pub fn pack(table: &[u8], out: &mut [u8]) -> u32 {
+    number_of(&read_table(table).and_then(|table| write_packed(&table, out)))
+}
+
+/// Reads a packed form, which grows its entries, and writes the form.
+pub fn unpack(packed: &[u8], out: &mut [u8]) -> u32 {
+    hand_back(read_packed(packed), out)
 }
 
 /// Converts groups to a positive table.

@@ -10,6 +10,9 @@ pub struct Entry {
     pub value: u32,
 }
 
+/// The characters of the digits 0, 1 and 2.
+const CHARACTERS: [char; 3] = ['0', '1', '*'];
+
 /// The word with ones at positions 1 to l, for l from 0 to 32.
 pub fn low_bits(l: u32) -> u32 {
     u32::MAX.checked_shr(32 - l).unwrap_or(0)
@@ -123,20 +126,28 @@ impl Entry {
         }
     }
 
+    /// The digit at one position: 0, 1, or 2 for `*`.
+    pub fn digit(self, bit: u32) -> u8 {
+        match (self.care & bit != 0, self.value & bit != 0) {
+            (false, _) => 2,
+            (true, false) => 0,
+            (true, true) => 1,
+        }
+    }
+
+    /// The string with such a digit in place of the `*` at one position.
+    pub fn with_digit(self, bit: u32, digit: u8) -> Entry {
+        Entry {
+            care: self.care | (bit * u32::from(digit != 2)),
+            value: self.value | (bit * u32::from(digit == 1)),
+        }
+    }
+
     /// The l positions as characters, position 1 first.
     pub fn text(self, l: u32) -> String {
         rising_bits(low_bits(l))
-            .map(|bit| self.character(bit))
+            .map(|bit| CHARACTERS[usize::from(self.digit(bit))])
             .collect()
-    }
-
-    /// The character of one position.
-    fn character(self, bit: u32) -> char {
-        match (self.care & bit != 0, self.value & bit != 0) {
-            (false, _) => '*',
-            (true, false) => '0',
-            (true, true) => '1',
-        }
     }
 
     /// The string that the characters write, position 1 first; None for any other character
@@ -145,15 +156,8 @@ impl Entry {
         let mut entry = Entry::ALL_STAR;
         for (i, character) in text.chars().enumerate() {
             let bit = 1u32.checked_shl(i as u32)?;
-            match character {
-                '*' => {}
-                '0' => entry.care |= bit,
-                '1' => {
-                    entry.care |= bit;
-                    entry.value |= bit;
-                }
-                _ => return None,
-            }
+            let digit = CHARACTERS.iter().position(|&one| one == character)?;
+            entry = entry.with_digit(bit, digit as u8);
         }
         Some(entry)
     }

@@ -42,7 +42,7 @@ pub fn equations_length(e: usize, m: usize) -> usize {
 }
 
 /// The sizes of a table: present (1), then 2, then 3.
-fn read_table_sizes(bytes: &[u8]) -> Result<(u32, usize), Refusal> {
+pub(crate) fn read_table_sizes(bytes: &[u8]) -> Result<(u32, usize), Refusal> {
     let (l, n) = read_sizes(bytes)?;
     check_width(u32::from(l))?;
     if usize::from(n) > ENTRIES {
@@ -178,7 +178,7 @@ pub fn read_tokens(bytes: &[u8]) -> Result<Vec<u16>, Refusal> {
 
 /// Puts a form at the front of an output, whose later bytes keep what they held; 9 where the
 /// output is too short.
-fn put(form: &[u8], out: &mut [u8]) -> Result<usize, Refusal> {
+pub(crate) fn put(form: &[u8], out: &mut [u8]) -> Result<usize, Refusal> {
     let place = out.get_mut(..form.len()).ok_or(Refusal::Narrow)?;
     place.copy_from_slice(form);
     Ok(form.len())

@@ -1,4 +1,4 @@
-//! Ternary set-sharing tables, positive and negative, written straight from document 01.
+//! Ternary set-sharing tables, positive and negative, written straight from documents 01 and 02.
 //!
 //! The verified analyser is compared with it: the same rules, the same order of entries and the
 //! same refusals, in plain Rust. The module `binary` holds a second means of comparison, the
@@ -14,6 +14,7 @@ pub mod equations;
 pub mod forms;
 pub mod growth;
 pub mod operations;
+pub mod packed;
 pub mod questions;
 pub mod refusal;
 pub mod report;

@@ -1,6 +1,6 @@
-//! The numbered refusals (01, "Refusals").
+//! The numbered refusals (01, "Refusals", and from 12 on 02).
 
-/// One refusal; its number and its condition are those of the table in 01.
+/// One refusal; its number and its condition are those of 01 and 02.
 #[derive(Clone, Copy, Debug, PartialEq, Eq, Hash)]
 pub enum Refusal {
     /// The length is not what the sizes give.
@@ -25,10 +25,12 @@ pub enum Refusal {
     Unlike = 10,
     /// Projection onto no variable, or onto one above l.
     Keep = 11,
+    /// A packed byte of 243 or more, or an unused digit that is not 0.
+    Digit = 12,
 }
 
 impl Refusal {
-    /// The number of 01.
+    /// The number of 01 and 02.
     pub fn number(self) -> u32 {
         self as u32
     }

@@ -5,7 +5,7 @@ mod common;
 use common::{some_table, some_term, table, SIDES};
 use reference::forms::{bytes_of, read_table};
 use reference::{byte_calls, operations, questions, Refusal, Table};
-use support::tables::form;
+use support::tables::{form, packed};
 use support::Random;
 
 /// A call writes the form of the value call's table and no byte more.
@@ -16,13 +16,18 @@ fn byte_calls_agree_with_value_calls() {
         let l = random.within(1, 6) as u32;
         let (x, term) = (u32::from(random.variable(l)), some_term(&mut random, l));
         let keep = random.set(l).max(1);
-        let [a, b] = [(); 2].map(|()| form(&some_table(&mut random, l, 12)));
+        let given = some_table(&mut random, l, 12);
+        let [a, b] = [form(&given), form(&some_table(&mut random, l, 12))];
         let (first, second) = (
             read_table(&a).expect("reads"),
             read_table(&b).expect("reads"),
         );
         let tokens = bytes_of(term.iter().copied());
         compare(Ok(first.clone()), |out| byte_calls::read(&a, out));
+        compare_bytes(&packed(&first), |out| byte_calls::pack(&a, out));
+        compare(Ok(first.clone()), |out| {
+            byte_calls::unpack(&packed(&given), out)
+        });
         for side in SIDES {
             let number = side.number();
             let equation = operations::equation(side, &first, x, &term);
@@ -39,12 +44,16 @@ fn byte_calls_agree_with_value_calls() {
     }
 }
 
-/// Compares the bytes of a call with the form of an accepted table, on outputs of three sizes.
+/// Compares the bytes of a call with the form of an accepted table.
 fn compare(table: Result<Table, Refusal>, call: impl Fn(&mut [u8]) -> u32) {
-    let expected = form(&table.expect("accepted"));
+    compare_bytes(&form(&table.expect("accepted")), call);
+}
+
+/// Compares the bytes of a call with those that it should write, on outputs of three sizes.
+fn compare_bytes(expected: &[u8], call: impl Fn(&mut [u8]) -> u32) {
     let mut long = vec![0xa5; expected.len() + 3];
     assert_eq!(call(&mut long), 0);
-    assert_eq!(long, [expected.as_slice(), &[0xa5; 3]].concat());
+    assert_eq!(long, [expected, &[0xa5; 3]].concat());
     let mut exact = vec![0xa5; expected.len()];
     assert_eq!(call(&mut exact), 0);
     assert_eq!(exact, expected);
@@ -93,6 +102,10 @@ fn refused_calls_write_nothing() {
     let variable = bytes_of([1]);
     let mut out = [0xa5; 64];
     assert_eq!(byte_calls::read(&torn, &mut out), 1);
+    assert_eq!(byte_calls::pack(&bytes_of([2, 1, 1, 2]), &mut out[..4]), 4);
+    assert_eq!(byte_calls::pack(&good, &mut out[..5]), 9);
+    assert_eq!(byte_calls::unpack(&[2, 0, 1, 0, 9], &mut out[..4]), 12);
+    assert_eq!(byte_calls::unpack(&[2, 0, 1, 0, 8], &mut out[..7]), 9);
     assert_eq!(byte_calls::change_side(0, &wide, &mut out), 2);
     assert_eq!(byte_calls::convert(0, &[4], &mut out), 2);
     assert_eq!(byte_calls::convert(2, &[1, 4], &mut out), 4);

@@ -2,7 +2,7 @@
 # The stored cases: the folder tests/tools.d/cases/COMMAND has for each case its input NAME.txt and NAME.out, what is typed and what comes of it.
 
 # Types the commands of the file $1 again, the lines with $ before them, in its folder. Below each stand its message, its output and its status;
-# `words` writes the 16-bit words of an output.
+# `words` writes the 16-bit words of an output, `numbers` its bytes as numbers; `bytes` writes the bytes whose numbers are in a file.
 typed() {
     local line status folder=${1%/*} bin=$scratch/bin
     mkdir -p "$bin"
@@ -19,7 +19,7 @@ typed() {
 
 stored_cases() {
     local folder=tests/tools.d/cases case command
-    export -f words
+    export -f words numbers bytes
     same "the inputs of the stored cases" "$(printf '%s\n' "$folder"/*/*.out | sed 's/out$/txt/')" "$(printf '%s\n' "$folder"/*/*.txt)"
     for case in "$folder"/*/*.out; do
         same "the case $case" "" "$(typed "$case" | diff "$case" - 2>&1)"

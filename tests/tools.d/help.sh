@@ -34,7 +34,7 @@ help_text() {
     local shown=0 version=--version
     : >"$file"
     asked 0 "$("$program" --help)" "" help
-    for command in input explain apart pairs tables show; do
+    for command in $commands; do
         asked 0 "$("$program" --help)" "" "$command" --help
     done
     "$program" --help >"$scratch/help"
@@ -53,9 +53,9 @@ help_text() {
         version=""
         asked 2 "" "$(usage)" --version
     fi
-    same "the commands of the manual page" "input explain apart pairs tables show --help --version" \
+    same "the commands of the manual page" "$commands --help --version" \
         "$(sed -n '/^.SH SYNOPSIS/,/^.SH DESC/{s/\\-/-/g;s/^\\fBsharetext \([^ ]*\)\\fR.*/\1/p}' tools/sharetext.1 | xargs)"
-    same "the commands of the help" "input explain apart pairs tables show help, --help${version:+ $version}" \
+    same "the commands of the help" "$commands help, --help${version:+ $version}" \
         "$(sed -n '/^Commands/,/^$/s/^  \([^ ].*\)/\1/p' "$scratch/help" | awk '{ print $1 == "help," ? $1 " " $2 : $1 }' | xargs)"
 }
 

@@ -11,7 +11,8 @@ reports() {
     same "the sanitizers on $1" 99 "$status"
 }
 
-# File $1 of the folder gives its words, and after each equation the answers of the plain sets of groups.
+# File $1 of the folder gives its words, after each equation the answers of the plain sets of groups, and the form of its last
+# table.
 good_file() {
     local point
     file=$folder/$1.txt
@@ -25,6 +26,19 @@ good_file() {
     done
     run show "$file"
     same "groups of $file" "0 " "$status $(cmp "$folder/$1.show" "$out" 2>&1)"
+    same_form "$file"
+}
+
+# The form of the file $1, plain and packed, has the entries that sharerun prints last.
+same_form() {
+    local due option
+    due=$("$program" input "$1" 2>"$scratch/ignored" | "$sharerun" |
+        awk 'NR == 1 { vars = $1 " " $2 } / / { text = vars; next } { text = text "\n" $0 } END { print text }')
+    for option in "" --packed; do
+        # shellcheck disable=SC2086 # no option is no argument
+        same "the form $option of $1 as text" "$due" \
+            "$("$program" form "$1" $option 2>"$scratch/ignored" | "$program" text - $option)"
+    done
 }
 
 # The last run, of a changed file, had no output, the status 2 and a message with a place that is in the file.
@@ -48,7 +62,7 @@ bad_file() {
     if ((status == 0)); then
         taken=$((taken + 1))
         same "what sharerun says of the words of $file" "" "$("$sharerun" <"$out" | grep refused || true)"
-        for command in tables show; do
+        for command in tables show form; do
             run "$command" "$file"
             same "status of $command of $file" 0 "$status"
         done
@@ -56,7 +70,7 @@ bad_file() {
     fi
     told=$((told + 1))
     told_place "input $file"
-    for command in pairs tables show; do
+    for command in pairs tables show form; do
         run "$command" "$file"
         told_place "$command $file"
     done
@@ -88,6 +102,12 @@ random_bytes() {
         same "status of random bytes $i: $(tail -n 3 "$err")" 1 $((status == 0 || status == 2))
         run explain
         same "status of explain of random bytes $i" 1 $((status < 2))
+        for option in "" --packed; do
+            { printf '%b' "\\x$((i % 9))\\x0\\x$((i % 3))\\x0" && head -c $((i % 13)) <(any_bytes "$i"); } >"$file"
+            # shellcheck disable=SC2086
+            run text "$file" $option
+            same "status of text $option of random bytes $i: $(tail -n 3 "$err")" 1 $((status == 0 || status == 2))
+        done
     done
 }
 

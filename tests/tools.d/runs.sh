@@ -7,10 +7,12 @@ usage() { "$program" --help | sed '/^$/,$d'; }
 
 wrong_runs() {
     cp examples/parish.txt "$file"
-    same "the commands of the usage" "input explain apart pairs tables show --help" "$(usage | sed 's/.*sharetext //; s/ .*//' | grep -v version | xargs)"
+    same "the commands of the usage" "$commands --help" "$(usage | sed 's/.*sharetext //; s/ .*//' | grep -v version | xargs)"
     for arguments in "" "input" "input a b" "explain a" "apart $file X1" "apart $file X1 X2 X3" "inputs $file" "-" "--after 1" "-h" \
         "pairs" "pairs $file X1" "pairs $file --after" "pairs $file --after 1 --after 1" "pairs --before 1 $file" "tables" "tables $file --after 1" \
-        "show" "show $file $file" "show $file --after 1" \
+        "show" "show $file $file" "show $file --after 1" "show $file --packed" "pairs $file --packed" \
+        "form" "form $file $file" "form $file --packed --packed" "form $file --after" "form $file --pack" \
+        "text" "text $file $file" "text $file --after 1" "text --packed" "text - --packed --packed" \
         "input $file --after 1" "explain --after 1" "apart $file - - -v" "apart $file --after=1 - -" "--help me" "help input" "Help"; do
         # shellcheck disable=SC2086 # the words are the arguments
         run $arguments
@@ -21,7 +23,9 @@ wrong_runs() {
     status=0
     "$program" explain <"$scratch" >"$out" 2>"$err" || status=$?
     ended "explain of a folder" 2 "" "standard input: The file cannot be read: Is a directory."
-    for arguments in "input $file" "explain" "apart $file Baptism Wedding" "apart $file Baptism Parish" "pairs $file" "tables $file" "show $file" --help; do
+    "$program" form "$file" >"$scratch/form"
+    for arguments in "input $file" "explain" "apart $file Baptism Wedding" "apart $file Baptism Parish" "pairs $file" "tables $file" "show $file" \
+        "form $file" "form $file --packed" "text $scratch/form" --help; do
         status=0
         # shellcheck disable=SC2086
         "$program" $arguments <"$file" >/dev/full 2>"$err" || status=$?
@@ -29,7 +33,7 @@ wrong_runs() {
         same "message of $arguments to a full device" "sharetext: The output cannot be written." "$(<"$err")"
     done
     printf 'vars 3\nX\n' >"$file"
-    for arguments in "input -" "pairs -" "tables -" "show -" "apart - - -"; do
+    for arguments in "input -" "pairs -" "tables -" "show -" "form -" "form - --packed" "apart - - -"; do
         # shellcheck disable=SC2086
         run $arguments
         ended "$arguments of a wrong standard input" 2 "" "$(mistake "$file" 2 1 1 "X is not one of the variables of line 1." "X1, X2 or X3 $symbols" |
@@ -77,8 +81,9 @@ each_number() {
 9 narrow the output that the caller lent is too short
 10 unlike two tables have different numbers of variables
 11 keep a projection keeps no variable
+12 digit a byte of a packed table is 243 or more
 END
-    for number in 0 12 65536 4294967301; do
+    for number in 0 13 65536 4294967301; do
         echo "refused $number" >"$file"
         run explain
         ended "refused $number" 1 "refused $number"$'\n    No refusal has this number.' ""

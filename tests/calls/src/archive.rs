@@ -33,6 +33,8 @@ fn writer(case: &Case, random: &mut Random) -> Result<Outcome, String> {
     let number = unsafe {
         match case.call {
             Call::Read => sharing_read(a, n, out, out_len),
+            Call::Pack => sharing_pack(a, n, out, out_len),
+            Call::Unpack => sharing_unpack(a, n, out, out_len),
             Call::Convert => sharing_convert(word, a.cast(), n / 4, out, out_len),
             Call::ChangeSide => sharing_change_side(side, a, n, out, out_len),
             Call::Equation => sharing_equation(side, a, n, word, b, m, out, out_len),

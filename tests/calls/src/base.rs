@@ -4,7 +4,7 @@ use crate::case::{Call, Case};
 use reference::forms::bytes_of;
 use reference::Table;
 use support::library::{RawTable, State};
-use support::tables::{form, Size, LONGEST};
+use support::tables::{form, packed, Size, LONGEST};
 use support::{Equations, Random};
 
 /// A call on tables of some size, with an output that is long enough.
@@ -15,9 +15,12 @@ pub fn base(call: Call, negative: bool, size: Size, random: &mut Random) -> Case
 }
 
 /// A call that can be damaged in each way: it has an entry, an equation, and room for a bit
-/// above l.
+/// above l or an unused digit.
 pub fn base_to_damage(call: Call, negative: bool, random: &mut Random) -> Case {
-    let l = random.within(1, 6) as u32;
+    let l = match call {
+        Call::Unpack => random.pick(&[1, 2, 3, 4, 6, 8, 11, 14, 16]),
+        _ => random.within(1, 6) as u32,
+    };
     let n = random.within(1, 6);
     let table = random.table(l, n);
     let mut case = base_on(call, negative, Size::Light, &table, random);
@@ -49,7 +52,10 @@ pub fn base_on(call: Call, negative: bool, size: Size, table: &Table, random: &m
     let l = table.l;
     let mut case = Case::new(call);
     case.side = random.side(negative);
-    case.first = form(table);
+    case.first = match call {
+        Call::Unpack => packed(table),
+        _ => form(table),
+    };
     case.out = output(call, random);
     match call {
         Call::Convert => give_groups(&mut case, l, table.entries.len(), random),

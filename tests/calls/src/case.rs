@@ -1,11 +1,16 @@
 //! One call with all that it is given, and what comes of it.
 
+use reference::forms::table_length;
+use reference::packed::packed_length;
 use support::library::State;
+use support::tables::{form_entries, form_width};
 
 /// The exported calls.
 #[derive(Clone, Copy, Debug, PartialEq, Eq, PartialOrd, Ord)]
 pub enum Call {
     Read,
+    Pack,
+    Unpack,
     Convert,
     ChangeSide,
     Equation,
@@ -23,8 +28,10 @@ pub enum Call {
 
 impl Call {
     /// All calls, in the order of the C header.
-    pub const ALL: [Call; 14] = [
+    pub const ALL: [Call; 16] = [
         Call::Read,
+        Call::Pack,
+        Call::Unpack,
         Call::Convert,
         Call::ChangeSide,
         Call::Equation,
@@ -44,6 +51,8 @@ impl Call {
     pub fn name(self) -> &'static str {
         match self {
             Call::Read => "sharing_read",
+            Call::Pack => "sharing_pack",
+            Call::Unpack => "sharing_unpack",
             Call::Convert => "sharing_convert",
             Call::ChangeSide => "sharing_change_side",
             Call::Equation => "sharing_equation",
@@ -60,13 +69,21 @@ impl Call {
         }
     }
 
-    /// Whether the call writes the form of a table into a lent output.
+    /// Whether the call writes the form of a table, plain or packed, into a lent output.
     pub fn writes_form(self) -> bool {
         use Call::*;
         matches!(
             self,
-            Read | Convert | ChangeSide | Equation | Join | Project | Write
+            Read | Pack | Unpack | Convert | ChangeSide | Equation | Join | Project | Write
         )
+    }
+
+    /// The length of the form that the call wrote to the front of an output.
+    pub fn written(self, out: &[u8]) -> usize {
+        match self {
+            Call::Pack => packed_length(form_width(out), form_entries(out)),
+            _ => table_length(form_entries(out)),
+        }
     }
 
     /// Whether the call answers yes or no.
@@ -94,7 +111,7 @@ pub struct Case {
     pub word: u32,
     /// The second set.
     pub other: u32,
-    /// The table, or the words of a conversion.
+    /// The table, in the form that the call reads, or the words of a conversion.
     pub first: Vec<u8>,
     /// The second table, the term or the equations.
     pub second: Vec<u8>,
@@ -130,7 +147,15 @@ impl Case {
         match &self.state {
             Some(state) => state.table.l,
             None if self.call == Call::Convert => self.word,
-            None => u32::from(u16::from_le_bytes([self.first[0], self.first[1]])),
+            None => form_width(&self.first),
+        }
+    }
+
+    /// The length of output that the call needs, by its outcome: any form has its sizes.
+    pub fn needed(&self, outcome: &Outcome) -> usize {
+        match outcome.number {
+            0 => self.call.written(&outcome.out),
+            _ => 4,
         }
     }
 }

@@ -14,6 +14,7 @@ use support::{Checked, Random};
 pub fn check(tester: &mut Tester, full: &Full) -> Checked<()> {
     let mut random = Random::new(5);
     for _ in 0..12 {
+        packings(tester, &mut random)?;
         conversions(tester, &mut random)?;
         long_conversions(tester, &mut random)?;
         joins(tester, &mut random)?;
@@ -28,15 +29,20 @@ pub fn check(tester: &mut Tester, full: &Full) -> Checked<()> {
     Ok(())
 }
 
-/// Makes a call and sees that it gives the number that the limit says.
-fn answered(tester: &mut Tester, case: &Case, number: u32) -> Checked<()> {
-    let outcome = tester.check(case)?;
-    if outcome.number != number {
-        let name = case.call.name();
-        return Err(format!(
-            "{name} at the limit: {} and not {number}",
-            outcome.number
-        ));
+/// Packing and unpacking keep all of 256 entries.
+fn packings(tester: &mut Tester, random: &mut Random) -> Checked<()> {
+    let l = random.within(9, 16) as u32;
+    let groups = alternate(l, ENTRIES, random).into_iter();
+    let table = Table {
+        l,
+        entries: groups.map(|group| Entry::of_group(l, group)).collect(),
+    };
+    for call in [Call::Pack, Call::Unpack] {
+        let case = base::base_on(call, false, Size::Light, &table, random);
+        let outcome = tester.answered(&case, 0)?;
+        if form_entries(&outcome.out) != ENTRIES {
+            return Err(format!("{} drops an entry of 256", call.name()));
+        }
     }
     Ok(())
 }
@@ -44,10 +50,10 @@ fn answered(tester: &mut Tester, case: &Case, number: u32) -> Checked<()> {
 fn conversions(tester: &mut Tester, random: &mut Random) -> Checked<()> {
     let l = random.within(10, 16) as u32;
     for (count, number) in [(255, 0), (256, 0), (257, 8), (258, 8), (511, 8)] {
-        answered(tester, &convert(l, count, random), number)?;
+        tester.answered(&convert(l, count, random), number)?;
     }
     // There are 256 such groups of 9 variables.
-    answered(tester, &convert(9, ENTRIES, random), 0)?;
+    tester.answered(&convert(9, ENTRIES, random), 0)?;
     // A list of all words leaves fewer entries than it has words.
     let mut all = Case::new(Call::Convert);
     all.word = l;
@@ -70,7 +76,7 @@ fn long_conversions(tester: &mut Tester, random: &mut Random) -> Checked<()> {
             words.push(word);
             case.first = words.iter().flat_map(|word| word.to_le_bytes()).collect();
             case.out = random.bytes(LONGEST);
-            answered(tester, &case, number)?;
+            tester.answered(&case, number)?;
             words.pop();
         }
     }
@@ -91,11 +97,7 @@ fn joins(tester: &mut Tester, random: &mut Random) -> Checked<()> {
         (256, 257, 8),
         (256, 300, 8),
     ] {
-        answered(
-            tester,
-            &join(&groups[..first], &groups[first..end], random),
-            number,
-        )?;
+        tester.answered(&join(&groups[..first], &groups[first..end], random), number)?;
     }
     let mut case = join(&groups[..256], &groups[..0], random);
     let known = Entry::of_group(10, random.pick(&groups[..256]));
@@ -109,7 +111,7 @@ fn joins(tester: &mut Tester, random: &mut Random) -> Checked<()> {
         (vec![wider, more, Entry::of_group(10, groups[257])], 8),
     ] {
         case.second = form(&Table { l: 10, entries });
-        answered(tester, &case, number)?;
+        tester.answered(&case, number)?;
     }
     Ok(())
 }
@@ -117,16 +119,18 @@ fn joins(tester: &mut Tester, random: &mut Random) -> Checked<()> {
 /// Negative joins: 16 times 16 entries, and one more pair of entries that match.
 fn negative_joins(tester: &mut Tester, random: &mut Random) -> Checked<()> {
     let mut case = negative_join(10, 16, 16, random);
-    answered(tester, &case, 0)?;
+    tester.answered(&case, 0)?;
     let mut first = table_of(&case.first);
     let low = (1..32).find(|&low| first.entries.iter().all(|entry| entry.value != low));
     let high = random.pick(&table_of(&case.second).entries).value;
     let value = low.unwrap_or(0) | high;
     first.entries.push(Entry { care: 0x3ff, value });
     case.first = form(&first);
-    answered(tester, &case, 8)?;
-    answered(tester, &negative_join(10, 17, 16, random), 8)?;
-    answered(tester, &negative_join(10, 17, 15, random), 0)
+    tester.answered(&case, 8)?;
+    tester.answered(&negative_join(10, 17, 16, random), 8)?;
+    tester
+        .answered(&negative_join(10, 17, 15, random), 0)
+        .map(drop)
 }
 
 /// Changes of side: eight entries fixed at two positions each leave 256 choices, four at four
@@ -146,10 +150,10 @@ fn changes_of_side(tester: &mut Tester, random: &mut Random) -> Checked<()> {
         let mut table = Table { l: 16, entries };
         for negative in [false, true] {
             let mut case = base::base_on(Call::ChangeSide, negative, Size::Light, &table, random);
-            answered(tester, &case, 0)?;
+            tester.answered(&case, 0)?;
             case.call = Call::Project;
             case.word = 0xffff;
-            answered(tester, &case, 0)?;
+            tester.answered(&case, 0)?;
         }
         table.entries.push(random.string(16, 50));
         for negative in [false, true] {
@@ -172,9 +176,9 @@ fn equations(tester: &mut Tester, random: &mut Random) -> Checked<()> {
         entries.extend(&relevant);
         random.shuffle(&mut entries);
         let case = x1_is_x2(l, entries, random);
-        answered(tester, &case, number)?;
-        answered(tester, &step_of(&case, random), number)?;
-        answered(tester, &run_of_one(&case), number)?;
+        tester.answered(&case, number)?;
+        tester.answered(&step_of(&case, random), number)?;
+        tester.answered(&run_of_one(&case), number)?;
         tester.check(&run_of(&case, random))?;
     }
     Ok(())
@@ -190,8 +194,8 @@ fn ground_variable(tester: &mut Tester, random: &mut Random) -> Checked<()> {
         let entries = fixed.map(|entry| entry.star(2).star(4)).collect();
         let mut case = x1_is_x2(l, entries, random);
         case.second = bytes_of([head(7, 2), 2, 3]);
-        answered(tester, &case, number)?;
-        answered(tester, &step_of(&case, random), number)?;
+        tester.answered(&case, number)?;
+        tester.answered(&step_of(&case, random), number)?;
     }
     Ok(())
 }

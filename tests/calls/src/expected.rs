@@ -25,6 +25,8 @@ fn writer(case: &Case) -> Outcome {
     let mut out = case.out.clone();
     let number = match case.call {
         Call::Read => byte_calls::read(first, &mut out),
+        Call::Pack => byte_calls::pack(first, &mut out),
+        Call::Unpack => byte_calls::unpack(first, &mut out),
         Call::Convert => byte_calls::convert(*word, &words(first), &mut out),
         Call::ChangeSide => byte_calls::change_side(*side, first, &mut out),
         Call::Equation => byte_calls::equation(*side, first, *word, &case.second, &mut out),

@@ -4,9 +4,8 @@ use crate::base::base_to_damage;
 use crate::case::{Call, Case};
 use crate::expected::expected;
 use crate::full::Full;
-use crate::{form_faults, term_faults, word_faults};
-use reference::forms::table_length;
-use support::tables::{form, form_entries};
+use crate::{form_faults, packed_faults, term_faults, word_faults};
+use support::tables::form;
 use support::Random;
 
 /// One of the two tables of a call.
@@ -56,6 +55,10 @@ pub enum Fault {
     Count(Which),
     StrayBit(Which),
     StrayValue(Which),
+    /// A packed byte of 243 or more.
+    PackedByte,
+    /// An unused digit that is not 0.
+    UnusedDigit,
     Width(Which),
     Short(Which),
     Long(Which),
@@ -82,6 +85,7 @@ impl Fault {
             Narrow => 9,
             Unlike => 10,
             Keep => 11,
+            PackedByte | UnusedDigit => 12,
         }
     }
 
@@ -110,6 +114,7 @@ impl Fault {
         match self {
             Count(which) | StrayBit(which) | StrayValue(which) | Width(which) | Short(which)
             | Long(which) | Sizes(which) => Some(which),
+            PackedByte | UnusedDigit => Some(Which::First),
             _ => None,
         }
     }
@@ -131,9 +136,11 @@ pub fn faults_of(call: Call, negative: bool) -> Vec<Fault> {
 
 /// The faults of a table's form. More may follow it in the two-buffer call.
 fn table_faults(call: Call, which: Which) -> Vec<Fault> {
-    let mut faults = [Count, StrayBit, StrayValue, Width, Short, Sizes]
-        .map(|f| f(which))
-        .to_vec();
+    let mut faults = [Count, Width, Short, Sizes].map(|f| f(which)).to_vec();
+    match call {
+        Call::Unpack => faults.extend([PackedByte, UnusedDigit]),
+        _ => faults.extend([StrayBit(which), StrayValue(which)]),
+    }
     if call != Call::Smaller {
         faults.push(Long(which));
     }
@@ -145,7 +152,7 @@ fn own_faults(call: Call, negative: bool) -> Vec<Fault> {
     let term = [TermLong, TermToken, TermPart, TermRest, TermNone, TermOdd];
     let state = [StateCount, StateStray, StateTail, StateWidth];
     match call {
-        Call::Read => vec![Narrow],
+        Call::Read | Call::Pack | Call::Unpack => vec![Narrow],
         Call::Convert => vec![Full, Narrow, ConvertWidth, ConvertStray],
         Call::ChangeSide => vec![Full, Narrow],
         Call::Equation => [&[Full, Narrow, Variable], &term[..]].concat(),
@@ -210,6 +217,9 @@ fn put(fault: Fault, l: u32, case: &mut Case, random: &mut Random) {
             let state = case.state.as_mut().expect("the call is given a state");
             word_faults::put_in_table(fault, l, &mut state.table, random);
         }
+        Count(_) | PackedByte | UnusedDigit if case.call == Call::Unpack => {
+            packed_faults::put(fault, l, &mut case.first, random);
+        }
         Count(which) | StrayBit(which) | StrayValue(which) | Width(which) | Short(which)
         | Long(which) | Sizes(which) => {
             let bytes = match which {
@@ -233,13 +243,9 @@ fn make_unlike(l: u32, case: &mut Case, random: &mut Random) {
     case.second = form(&random.table(other, n));
 }
 
-/// Cuts the output to less than the form that the call would write; any form has its sizes.
+/// Cuts the output to less than the form that the call would write.
 fn make_narrow(case: &mut Case, random: &mut Random) {
-    let outcome = expected(case);
-    let needed = match outcome.number {
-        0 => table_length(form_entries(&outcome.out)),
-        _ => 4,
-    };
+    let needed = case.needed(&expected(case));
     let nearly = needed - 1;
     let any = random.below(needed);
     case.out.truncate(random.pick(&[0, nearly, any]));

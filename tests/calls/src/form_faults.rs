@@ -38,16 +38,21 @@ pub fn put(fault: Fault, bytes: &mut Vec<u8>, random: &mut Random) {
 fn overfull(bytes: &[u8], random: &mut Random) -> Vec<u8> {
     let words = words_of(bytes);
     let (care, value) = words[2..].split_at(usize::from(words[1]));
-    let any = ENTRIES + random.within(2, 40);
-    let n = match random.below(400) {
-        0 => usize::from(u16::MAX),
-        1..=99 => any,
-        // A low byte that is a valid count by itself.
-        100..=119 => 2 * ENTRIES + care.len(),
-        _ => ENTRIES + 1,
-    };
+    let n = too_many(care.len(), random);
     let row = |words: &[u16]| -> Vec<u16> { words.iter().copied().cycle().take(n).collect() };
     bytes_of([vec![words[0], n as u16], row(care), row(value)].concat())
+}
+
+/// A count above 256 in place of a good one.
+pub fn too_many(good: usize, random: &mut Random) -> usize {
+    let any = ENTRIES + random.within(2, 40);
+    match random.below(400) {
+        0 => usize::from(u16::MAX),
+        1..=99 => any,
+        // The low byte is the good count.
+        100..=119 => 2 * ENTRIES + good,
+        _ => ENTRIES + 1,
+    }
 }
 
 /// A bit above l in one entry, or a value without care.

@@ -29,7 +29,8 @@ pub struct Ledger {
 /// The numbers that a call can answer: all others are wrong whatever it is given.
 fn possible(call: Call, negative: bool) -> &'static [u32] {
     match call {
-        Call::Read => &[0, 1, 2, 3, 4, 9],
+        Call::Read | Call::Pack => &[0, 1, 2, 3, 4, 9],
+        Call::Unpack => &[0, 1, 2, 3, 9, 12],
         Call::Convert => &[0, 2, 4, 8, 9],
         Call::ChangeSide => &[0, 1, 2, 3, 4, 8, 9],
         Call::Equation => &[0, 1, 2, 3, 4, 5, 6, 7, 8, 9],

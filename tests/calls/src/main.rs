@@ -15,6 +15,8 @@ mod full;
 mod guard;
 mod ledger;
 mod noise;
+mod packed;
+mod packed_faults;
 mod pairs;
 mod sequences;
 mod stream;
@@ -64,5 +66,6 @@ fn check_all(tester: &mut Tester) -> Checked<()> {
     edges::check(tester, &full)?;
     noise::check(tester)?;
     twos::check(tester)?;
+    packed::check(tester)?;
     sequences::check(tester, &full)
 }

@@ -4,6 +4,7 @@ use crate::base::{base, base_to_damage};
 use crate::case::{Call, Case};
 use crate::ledger::rows;
 use crate::tester::Tester;
+use reference::packed::packed_length;
 use support::tables::Size;
 use support::{Checked, Random};
 
@@ -32,8 +33,10 @@ pub fn check(tester: &mut Tester) -> Checked<()> {
 fn make_noise(case: &mut Case, random: &mut Random) {
     case.word = small_or_any(random);
     case.other = small_or_any(random);
-    if case.call != Call::Convert {
-        case.first = noise(random);
+    match case.call {
+        Call::Convert => {}
+        Call::Unpack => case.first = packed_noise(random),
+        _ => case.first = noise(random),
     }
     case.second = noise(random);
     if case.call.writes_form() {
@@ -74,6 +77,20 @@ fn noise(random: &mut Random) -> Vec<u8> {
             .skip(5)
             .step_by(2)
             .for_each(|byte| *byte &= high);
+    }
+    bytes
+}
+
+/// The same for a packed form, often of bytes that few digits make.
+fn packed_noise(random: &mut Random) -> Vec<u8> {
+    let (l, n) = (random.below(18), random.below(6));
+    let fitting = packed_length(l as u32, n);
+    let any = random.below(30);
+    let len = random.pick(&[fitting, fitting, fitting, any]);
+    let limit = random.pick(&[3, 9, 81, 243, 256]);
+    let mut bytes: Vec<u8> = (0..len).map(|_| random.below(limit) as u8).collect();
+    if len >= 4 && random.percent(80) {
+        bytes[..4].copy_from_slice(&[l as u8, 0, n as u8, 0]);
     }
     bytes
 }

@@ -5,10 +5,10 @@ use crate::case::{Call, Case, Outcome};
 use crate::faults::Fault;
 use crate::full::{table_of, Full};
 use crate::tester::Tester;
-use crate::{term_faults, word_faults};
-use reference::forms::{bytes_of, table_length};
+use crate::{packed, term_faults, word_faults};
+use reference::forms::bytes_of;
 use support::library::State;
-use support::tables::{form, form_entries, Size, LONGEST};
+use support::tables::{form, Size, LONGEST};
 use support::{Checked, Random};
 
 /// Running analyses, chains of calls on bytes, and runs beside steps.
@@ -140,13 +140,16 @@ fn chain(tester: &mut Tester, negative: bool, size: Size, random: &mut Random) -
             Call::Project,
             Call::ChangeSide,
             Call::Read,
+            Call::Pack,
         ]);
         let case = base_on(call, negative, Size::Light, &table_of(&bytes), random);
         let outcome = tester.check(&case)?;
         if outcome.number == 0 {
             negative ^= call == Call::ChangeSide;
-            let length = table_length(form_entries(&outcome.out));
-            bytes = outcome.out[..length].to_vec();
+            bytes = outcome.out[..call.written(&outcome.out)].to_vec();
+            if call == Call::Pack {
+                bytes = packed::written(tester, Call::Unpack, bytes, random)?;
+            }
         }
         ask(tester, negative, &bytes, random)?;
     }

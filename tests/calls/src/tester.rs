@@ -53,6 +53,16 @@ impl Tester {
         self.ledger.enter(case, &plain);
         Ok(plain)
     }
+
+    /// Makes one call, which must answer the given number.
+    pub fn answered(&mut self, case: &Case, number: u32) -> Checked<Outcome> {
+        let outcome = self.check(case)?;
+        if outcome.number != number {
+            let (name, answered) = (case.call.name(), outcome.number);
+            return Err(format!("{name} answers {answered} and not {number}"));
+        }
+        Ok(outcome)
+    }
 }
 
 /// The message of a difference: the call, what it was given, and both outcomes.

@@ -5,8 +5,7 @@ use crate::base::base;
 use crate::case::{Call, Case};
 use crate::ledger::rows;
 use crate::tester::Tester;
-use reference::forms::table_length;
-use support::tables::{form_entries, Size, LONGEST};
+use support::tables::{Size, LONGEST};
 use support::{Checked, Random};
 
 /// How many calls of each kind on tables of each size: those that take long are fewer.
@@ -48,7 +47,13 @@ pub fn check_lengths(tester: &mut Tester) -> Checked<()> {
             outputs(tester, case, &mut random)?;
         }
     }
-    for call in [Call::Read, Call::Write, Call::Convert] {
+    for call in [
+        Call::Read,
+        Call::Pack,
+        Call::Unpack,
+        Call::Write,
+        Call::Convert,
+    ] {
         for _ in 0..60 {
             let case = base(call, false, Size::Any, &mut random);
             outputs(tester, case, &mut random)?;
@@ -61,10 +66,7 @@ pub fn check_lengths(tester: &mut Tester) -> Checked<()> {
 /// the longest form needs.
 fn outputs(tester: &mut Tester, mut case: Case, random: &mut Random) -> Checked<()> {
     let outcome = tester.check(&case)?;
-    let needed = match outcome.number {
-        0 => table_length(form_entries(&outcome.out)),
-        _ => 4,
-    };
+    let needed = case.needed(&outcome);
     let near = needed.saturating_sub(6)..needed + 7;
     for len in (0..6).chain(near).chain(LONGEST - 1..LONGEST + 2) {
         case.out = random.bytes(len);

@@ -1,7 +1,7 @@
 //! How often each number was answered.
 
-/// The numbers are 0, for what is accepted, and the refusals 1 to 11.
-pub const NUMBERS: u32 = 12;
+/// The numbers are 0, for what is accepted, and the refusals 1 to 12.
+pub const NUMBERS: u32 = 13;
 
 /// The counts of the numbers.
 #[derive(Default)]

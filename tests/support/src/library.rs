@@ -38,6 +38,8 @@ pub type Out = *mut u8;
 
 extern "C" {
     pub fn sharing_read(table: In, len: usize, out: Out, out_len: usize) -> u32;
+    pub fn sharing_pack(table: In, len: usize, out: Out, out_len: usize) -> u32;
+    pub fn sharing_unpack(packed: In, len: usize, out: Out, out_len: usize) -> u32;
     pub fn sharing_convert(l: u32, groups: *const u32, len: usize, out: Out, out_len: usize)
         -> u32;
     pub fn sharing_change_side(side: u32, table: In, len: usize, out: Out, out_len: usize) -> u32;

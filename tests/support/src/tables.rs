@@ -3,6 +3,7 @@
 use crate::random::Random;
 use reference::entry::low_bits;
 use reference::forms::{table_length, write_table};
+use reference::packed::{packed_length, write_packed};
 use reference::{Entry, Table, ENTRIES};
 
 /// How large the drawn tables are; calls that take long get light ones.
@@ -98,7 +99,12 @@ impl Random {
 /// The length of the longest form of a table.
 pub const LONGEST: usize = 4 + 4 * ENTRIES;
 
-/// The entries that a form says it has.
+/// The variables that a form says it has, plain or packed.
+pub fn form_width(form: &[u8]) -> u32 {
+    u32::from(u16::from_le_bytes([form[0], form[1]]))
+}
+
+/// The entries that a form says it has, plain or packed.
 pub fn form_entries(form: &[u8]) -> usize {
     usize::from(u16::from_le_bytes([form[2], form[3]]))
 }
@@ -107,5 +113,12 @@ pub fn form_entries(form: &[u8]) -> usize {
 pub fn form(table: &Table) -> Vec<u8> {
     let mut bytes = vec![0; table_length(table.entries.len())];
     write_table(table, &mut bytes).expect("the table is valid and the output has its length");
+    bytes
+}
+
+/// The packed form of a table as it stands.
+pub fn packed(table: &Table) -> Vec<u8> {
+    let mut bytes = vec![0; packed_length(table.l, table.entries.len())];
+    write_packed(table, &mut bytes).expect("the table is valid and the output has its length");
     bytes
 }
