@@ -1,6 +1,6 @@
 /*
- * The running analysis: one state that each equation changes, and what to do where an equation is
- * refused. X1 Baptism, X2 Wedding, X3 Parish.
+ * The running analysis: one state that each equation changes, what to do where an equation is
+ * refused, and how to store its table. X1 Baptism, X2 Wedding, X3 Parish.
  *
  *     cc running.c $(pkg-config --cflags --libs sharing) -o running
  */
@@ -93,6 +93,21 @@ static void print_smaller(const char *what, const sharing_running *state) {
            (unsigned)part.len);
 }
 
+/*
+ * The table packed, as it would be stored, and a new analysis that goes on from what was stored.
+ * The packed form says neither its side nor how many equations were applied: store these with it.
+ */
+static sharing_running store_and_resume(const sharing_running *state) {
+    uint8_t form[SHARING_MAX_FORM], stored[SHARING_MAX_PACKED];
+    expect(0, sharing_write(state, form, sizeof form), "sharing_write");
+    size_t form_len = sharing_front_length(form, sizeof form);
+    expect(0, sharing_pack(form, form_len, stored, sizeof stored), "sharing_pack");
+    size_t stored_len = sharing_packed_front(stored, sizeof stored);
+    expect(0, sharing_unpack(stored, stored_len, form, sizeof form), "sharing_unpack");
+    printf("%-24s %u bytes, packed %u\n", "stored", (unsigned)form_len, (unsigned)stored_len);
+    return sharing_start(state->side, form, sharing_front_length(form, sizeof form));
+}
+
 /* The register: two good equations, and a wrong one that the program does not run. */
 static void parish(void) {
     const sharing_entry entries[] = {{7, 1}, {3, 2}, {5, 4}}; /* 100 01* 0*1 */
@@ -107,6 +122,8 @@ static void parish(void) {
     equation(&state, "X4 = ashby", 4, 0, SKIPS);
     equation(&state, "Parish = ashby", 3, 0, RUNS_IT);
     print_smaller("smaller at the end", &state);
+    state = store_and_resume(&state);
+    print_state("read again", state.code, &state);
 }
 
 /* Sixteen free variables. X1 = f(X1, ..., X15) needs entry 257, and is run all the same. */

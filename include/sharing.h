@@ -29,6 +29,22 @@
  *     1   the length is not 4 + 4n bytes
  *     4   entry by entry: a bit above l, or a value bit where care is 0
  *
+ * The packed form of a table
+ *   Five positions to a byte, for tables in store: l and n as above, then for each entry a row of
+ *   l/5 bytes, rounded up, with nothing between; 4 + n * ((l + 4) / 5) bytes. A byte is the sum of
+ *   its digits times 1, 3, 9, 27 and 81, lowest position first; a digit is 0, 1, or 2 for a star.
+ *   The last byte of a row may have digits that no position uses: they are 0. This form does not
+ *   say its side either. Only sharing_pack writes it and only sharing_unpack reads it, which drops
+ *   entries as above. The length of what was written follows from its l and n
+ *   (sharing_packed_front in sharing_util.h).
+ *
+ *   PACKED FORM below stands for these refusals, in this order:
+ *     1   fewer than 4 bytes
+ *     2   l is not 1 to 16
+ *     3   n is above 256
+ *     1   the length is not 4 + n * ((l + 4) / 5) bytes
+ *     12  entry by entry, byte by byte: a byte of 243 or more, or an unused digit that is not 0
+ *
  * Terms
  *   A row of 16-bit tokens; as bytes, low byte first. A token with top bit 0 is the number of a
  *   variable. One with top bit 1 is a head, with its arity in bits 0 to 3 and its symbol in bits 4
@@ -87,7 +103,7 @@
 
 /* The version, which stands here and nowhere else, as numbers and as text. */
 #define SHARING_VERSION_MAJOR 0
-#define SHARING_VERSION_MINOR 1
+#define SHARING_VERSION_MINOR 2
 #define SHARING_VERSION_PATCH 0
 #define SHARING_VERSION                                                                            \
     SHARING_QUOTED(SHARING_VERSION_MAJOR)                                                          \
@@ -121,7 +137,8 @@ enum {
     SHARING_FULL = 8,    /* entry 257 is needed */
     SHARING_NARROW = 9,  /* the output is too short */
     SHARING_UNLIKE = 10, /* two tables of different l */
-    SHARING_KEEP = 11    /* projection onto no variable, or onto one above l */
+    SHARING_KEEP = 11,   /* projection onto no variable, or onto one above l */
+    SHARING_DIGIT = 12   /* a packed byte of 243 or more, or an unused digit that is not 0 */
 };
 
 /* The limits. */
@@ -130,7 +147,8 @@ enum {
     SHARING_MAX_ENTRIES = 256,
     SHARING_MAX_EQUATIONS = 64,
     SHARING_MAX_TOKENS = 1024,
-    SHARING_MAX_FORM = 1028 /* bytes in the form of a table with 256 entries */
+    SHARING_MAX_FORM = 1028,  /* bytes in the form of a table with 256 entries */
+    SHARING_MAX_PACKED = 1028 /* bytes in the packed form of one with 256 entries of 16 variables */
 };
 
 /* The sides. */
@@ -166,6 +184,24 @@ typedef struct {
  */
 SHARING_MUST_USE
 uint32_t sharing_read(const uint8_t *table, size_t table_len, uint8_t *out, size_t out_len);
+
+/*
+ * Packs a table, for storing it: the entries that sharing_read writes, five positions to a byte.
+ * Reads table. Writes the packed form to out.
+ * Refusals in order: TABLE FORM; 9.
+ * After a refusal: out is as it was.
+ */
+SHARING_MUST_USE
+uint32_t sharing_pack(const uint8_t *table, size_t table_len, uint8_t *out, size_t out_len);
+
+/*
+ * Unpacks a table. What sharing_pack wrote gives what sharing_read writes of the table packed.
+ * Reads packed, a packed form. Writes the form, without the entries that reading drops, to out.
+ * Refusals in order: PACKED FORM; 9.
+ * After a refusal: out is as it was.
+ */
+SHARING_MUST_USE
+uint32_t sharing_unpack(const uint8_t *packed, size_t packed_len, uint8_t *out, size_t out_len);
 
 /*
  * Converts groups to a positive table of l variables.

@@ -89,6 +89,27 @@ static inline size_t sharing_front_length(const uint8_t *buffer, size_t buffer_l
     return sharing_check(buffer, length) == SHARING_ACCEPTED ? length : 0;
 }
 
+/* The length in bytes of a packed form; 0 where l is not 1 to 16 or n is above 256. */
+static inline size_t sharing_packed_length(uint32_t l, size_t n) {
+    if (l < 1 || l > SHARING_MAX_VARIABLES || n > SHARING_MAX_ENTRIES)
+        return 0;
+    return 4 + n * ((l + 4) / 5);
+}
+
+/*
+ * The length of the packed form at the front of a buffer, whatever follows it; 0 where none stands
+ * there. After sharing_pack wrote to a buffer this is the length of what it wrote.
+ */
+static inline size_t sharing_packed_front(const uint8_t *buffer, size_t buffer_len) {
+    uint8_t form[SHARING_MAX_FORM];
+    if (buffer_len < 4)
+        return 0;
+    size_t length = sharing_packed_length(sharing_word_at(buffer, 0), sharing_word_at(buffer, 1));
+    if (length == 0 || length > buffer_len)
+        return 0;
+    return sharing_unpack(buffer, length, form, sizeof form) == SHARING_ACCEPTED ? length : 0;
+}
+
 /*
  * Makes a form of l variables from n entries, as they stand and in order.
  * Refusals in order: 2; 3 where n is above 256; 4; 9.
@@ -217,25 +238,28 @@ static inline uint32_t sharing_all_free(uint32_t l, uint8_t *out, size_t out_len
 
 /* The word of an answer, as "torn"; "unknown" for a number that is no answer. */
 static inline const char *sharing_refusal_word(uint32_t code) {
-    static const char *const words[] = {"accepted", "torn", "width", "entries", "stray",  "name",
-                                        "term",     "long", "full",  "narrow",  "unlike", "keep"};
+    static const char *const words[] = {"accepted", "torn", "width", "entries", "stray",
+                                        "name",     "term", "long",  "full",    "narrow",
+                                        "unlike",   "keep", "digit"};
     return code < sizeof words / sizeof words[0] ? words[code] : "unknown";
 }
 
 /* An answer in a few words more, as in sharing.h. */
 static inline const char *sharing_refusal_sentence(uint32_t code) {
-    static const char *const sentences[] = {"the call was accepted",
-                                            "the length is not what the sizes give",
-                                            "l is not 1 to 16",
-                                            "more than 256 entries",
-                                            "a bit above l, or a value without care",
-                                            "a variable that is not 1 to l",
-                                            "counts that do not sum up, or not one whole term",
-                                            "more than 64 equations or 1024 tokens",
-                                            "entry 257 is needed",
-                                            "the output is too short",
-                                            "two tables of different l",
-                                            "projection onto no variable, or onto one above l"};
+    static const char *const sentences[] = {
+        "the call was accepted",
+        "the length is not what the sizes give",
+        "l is not 1 to 16",
+        "more than 256 entries",
+        "a bit above l, or a value without care",
+        "a variable that is not 1 to l",
+        "counts that do not sum up, or not one whole term",
+        "more than 64 equations or 1024 tokens",
+        "entry 257 is needed",
+        "the output is too short",
+        "two tables of different l",
+        "projection onto no variable, or onto one above l",
+        "a packed byte of 243 or more, or an unused digit that is not 0"};
     return code < sizeof sentences / sizeof sentences[0] ? sentences[code]
                                                          : "no answer of the calls";
 }

@@ -3,19 +3,11 @@
 
 #include <string.h>
 
-/* Output that did not arrive is an error, whatever the answer was. */
-int finish(int status) {
-    if (fflush(stdout) == 0 && !ferror(stdout))
-        return status;
-    fprintf(stderr, "sharetext: The output cannot be written.\n");
-    return STATUS_WRONG;
-}
-
 /* The reader lets nothing by that the library refuses. Should it do so, no answer is given. */
-static bool accepted(const rules *given, uint32_t code) {
+bool accepted(const rules *given, uint32_t code) {
     if (code == SHARING_ACCEPTED)
         return true;
-    fprintf(stderr, "%s: refused %u\n", given->name, (unsigned)code);
+    fprintf(stderr, "%s: refused %u\n", given->from.name, (unsigned)code);
     explain_number(stderr, code);
     return false;
 }
@@ -87,12 +79,17 @@ uint32_t word_at(const uint8_t *form, size_t i) {
     return (uint32_t)form[2 * i] | (uint32_t)form[2 * i + 1] << 8;
 }
 
-/* An entry as a string, and the variables that it has and may have. */
+/* An entry as a string. */
+void put_string(FILE *to, size_t width, uint32_t care, uint32_t value) {
+    for (size_t i = 0; i < width; i++)
+        fputc((care >> i & 1) == 0 ? '*' : (value >> i & 1) == 0 ? '0' : '1', to);
+}
+
+/* The same, and the variables that it has and may have. */
 static void put_entry(FILE *to, const rules *given, uint32_t care, uint32_t value) {
     uint32_t either = ~care & ((1u << given->width) - 1);
     fputs("    ", to);
-    for (size_t i = 0; i < given->width; i++)
-        fputc((care >> i & 1) == 0 ? '*' : (value >> i & 1) == 0 ? '0' : '1', to);
+    put_string(to, given->width, care, value);
     /* A single * without a 1 is a 1: a group is never empty. */
     fputs(value == 0 && (either & (either - 1)) != 0 ? "  any of " : "  ", to);
     put_variables(to, given, value);
@@ -167,7 +164,7 @@ rules *open_rules(const char *path) {
     for (size_t i = 0; i < given->named; i++) {
         if ((given->absent >> i & 1) == 0)
             continue;
-        fprintf(stderr, "%s: ", given->name);
+        fprintf(stderr, "%s: ", given->from.name);
         put_piece(stderr, given->variable[i]);
         fputs(" is in no group: it counts as known\n", stderr);
     }
@@ -267,7 +264,7 @@ int pairs(const rules *given, size_t after) {
     if (!reach(given, after, &at))
         return STATUS_WRONG;
     if (given->named == 1)
-        fprintf(stderr, "%s: There is one variable, and so no pair.\n", given->name);
+        fprintf(stderr, "%s: There is one variable, and so no pair.\n", given->from.name);
     for (size_t i = 0; i < given->named; i++)
         for (size_t j = i + 1; j < given->named; j++) {
             piece names[2] = {given->variable[i], given->variable[j]};

@@ -12,17 +12,21 @@ typedef struct {
     uint8_t form[SHARING_MAX_FORM];
 } point;
 
-int finish(int status);
 rules *open_rules(const char *path);
+bool accepted(const rules *given, uint32_t code);
 
 bool reach(const rules *given, size_t after, point *out);
 uint32_t word_at(const uint8_t *form, size_t i);
 void put_heading(const char *what, const point *at);
+void put_string(FILE *to, size_t width, uint32_t care, uint32_t value);
 
 int apart(const rules *given, char *const goals[2], size_t after);
 int pairs(const rules *given, size_t after);
 int tables(const rules *given);
 int show(const rules *given);
+
+int write_form(const rules *given, size_t after, bool packed);
+int write_text(const char *path, bool packed);
 
 void explain_number(FILE *to, uint32_t number);
 int explain(void);

@@ -40,7 +40,10 @@ static const char *const meanings[] = {
         "Look at the line `vars` of both files.",
     [SHARING_KEEP] =
         "keep: a projection keeps no variable, or one above the last. "
-        "Look at the variables that were to be kept."};
+        "Look at the variables that were to be kept.",
+    [SHARING_DIGIT] =
+        "digit: a byte of a packed table is 243 or more, or has a digit that is not 0 after the "
+        "last variable. Look at what wrote the packed table."};
 
 /* Writes a line with the meaning of a refusal's number. */
 void explain_number(FILE *to, uint32_t number) {

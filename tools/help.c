@@ -11,6 +11,8 @@ void print_usage(FILE *to) {
           "       sharetext pairs FILE [--after N]\n"
           "       sharetext tables FILE\n"
           "       sharetext show FILE\n"
+          "       sharetext form FILE [--after N] [--packed]\n"
+          "       sharetext text FORM [--packed]\n"
           "       sharetext --help\n", to);
 #ifdef SHARING_VERSION_MAJOR
     fputs("       sharetext --version\n", to);
@@ -36,18 +38,23 @@ static const char *const commands =
     "                         fewer variables first, those of as many in the order of their\n"
     "                         variables. Of a table 64 groups are shown, then how many more there\n"
     "                         are\n"
+    "  form FILE              writes the bytes of the form of the table after the last equation,\n"
+    "                         or with --after N after the first N\n"
+    "  text FORM              reads the bytes of a form and writes a readable file with its\n"
+    "                         entries, which the other commands take\n"
     "  help, --help           this text\n"
 #ifdef SHARING_VERSION_MAJOR
     "  --version              the version\n"
 #endif
     "\n"
-    "  FILE may be - for standard input. A GOAL is a list of variables such as Baptism,Parish, or\n"
-    "  - for none.\n"
+    "  FILE and FORM may be - for standard input. A GOAL is a list of variables such as\n"
+    "  Baptism,Parish, or - for none.\n"
     "\n"
     "Options\n"
     "  --after N   asks after the first N equations: 0 is before the first one. Without it the\n"
     "              question is asked after the last one. The answer's line says which point it\n"
-    "              holds at.\n";
+    "              holds at.\n"
+    "  --packed    form writes and text reads the packed form, five positions to a byte.\n";
 
 static const char *const file_lines =
     "\n"
@@ -101,6 +108,13 @@ static const char *const free_and_full =
     "  is what is safe to go on with there. The message has the table before it; points before it\n"
     "  are answered as usual.\n"
     "\n"
+    "Forms\n"
+    "  A form is what the calls of the library read and write; a packed form is a shorter one, for\n"
+    "  storing tables. Both are in sharing.h. They have a position for each variable of the line\n"
+    "  vars and then one for each _, but no names, no equations and no side: the other commands\n"
+    "  take the entries that text writes as those of a positive table. One that is refused is told\n"
+    "  with the number and the words of the refusal, and gives no output.\n"
+    "\n"
     "Mistakes\n"
     "  FILE:LINE:COLUMN: and what is wrong, then the line with the place marked, and what is\n"
     "  expected there. Columns are bytes, from 1. A file with a mistake gives no answer and no\n"
@@ -109,7 +123,8 @@ static const char *const free_and_full =
     "Exit status\n"
     "  0  done; for apart: the goals may run side by side\n"
     "  1  for apart: they may not; for explain: there was a refusal\n"
-    "  2  a mistake in the file or in the arguments, or no answer because an equation is full\n";
+    "  2  a mistake in the file or in the arguments, a form that is refused, or no answer because\n"
+    "     an equation is full\n";
 
 static const char *const example =
     "\n"

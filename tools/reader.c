@@ -1,7 +1,6 @@
 /* The reader of a readable file, line by line. */
 #include "reader.h"
 
-#include <errno.h>
 #include <stdlib.h>
 #include <string.h>
 
@@ -445,54 +444,15 @@ static bool read_lines(reader *r) {
 
 /* ---- Files */
 
-/* Without memory nothing can be done, and nothing has been written yet. */
-void *need(void *memory) {
-    if (memory == NULL) {
-        fprintf(stderr, "sharetext: There is not enough memory.\n");
-        exit(STATUS_WRONG);
-    }
-    return memory;
-}
-
-/* A read error ends the text early; the caller asks ferror. */
-static void read_bytes(FILE *from, rules *out) {
-    size_t room = 4096, got;
-    out->bytes = need(malloc(room));
-    while ((got = fread(out->bytes + out->len, 1, room - out->len, from)) > 0) {
-        out->len += got;
-        if (out->len == room) {
-            room *= 2;
-            out->bytes = need(realloc(out->bytes, room));
-        }
-    }
-}
-
-/* The bytes of a file, or of standard input for -. */
-static bool read_path(const char *path, rules *out) {
-    bool standard = strcmp(path, "-") == 0;
-    FILE *from = standard ? stdin : fopen(path, "rb");
-    bool good = from != NULL;
-    out->name = standard ? "standard input" : path;
-    if (good) {
-        read_bytes(from, out);
-        good = !ferror(from);
-    }
-    if (!good)
-        fprintf(stderr, "%s: The file cannot be read: %s.\n", out->name, strerror(errno));
-    if (from != NULL && from != stdin)
-        fclose(from);
-    return good;
-}
-
 /* The items of the bytes that were read. */
 static bool read_items(rules *out) {
     reader *r = need(calloc(1, sizeof *r));
     bool good;
     r->out = out;
-    r->lines.at = r->where.text.at = out->bytes;
-    r->lines.end = out->bytes + out->len;
-    r->where.name = out->name;
-    r->atoms = need(malloc(out->len + 1));
+    r->lines.at = r->where.text.at = out->from.bytes;
+    r->lines.end = out->from.bytes + out->from.len;
+    r->where.name = out->from.name;
+    r->atoms = need(malloc(out->from.len + 1));
     good = read_lines(r);
     free(r->atoms);
     free(r);
@@ -502,7 +462,7 @@ static bool read_items(rules *out) {
 /* The file as it was read; NULL where something is wrong with it, which has then been said. */
 rules *read_rules(const char *path) {
     rules *out = need(calloc(1, sizeof *out));
-    if (read_path(path, out) && read_items(out))
+    if (read_file(path, &out->from) && read_items(out))
         return out;
     free_rules(out);
     return NULL;

@@ -6,7 +6,7 @@
 /* Gives back the memory of a file; NULL is none. */
 void free_rules(rules *given) {
     if (given != NULL)
-        free(given->bytes);
+        free(given->from.bytes);
     free(given);
 }
 
@@ -42,7 +42,7 @@ void expected_variables(const rules *given, const char *more) {
 void tell_unknown(const rules *given, const place *where, piece name) {
     bool in_goal = where->line == 0;
     tell_piece(where, name, " is not one of the variables of line %lu%s%s.", given->vars_line,
-               in_goal ? " of " : "", in_goal ? given->name : "");
+               in_goal ? " of " : "", in_goal ? given->from.name : "");
 }
 
 /* ---- Written forms */

@@ -4,10 +4,8 @@
 
 #include <sharing.h>
 
+#include "files.h"
 #include "text.h"
-
-/* The exit status of the program. */
-enum { STATUS_YES = 0, STATUS_NO = 1, STATUS_WRONG = 2 };
 
 /* The limits of the written form that the header has no name for. */
 enum {
@@ -32,9 +30,7 @@ typedef struct {
 
 /* Positions 1 to `named` are the variables of the line vars, those up to `width` each one _. */
 typedef struct {
-    const char *name; /* the file's name in messages */
-    uint8_t *bytes;   /* the file, in which the pieces stand */
-    size_t len;
+    file from; /* in which the pieces stand */
     unsigned long vars_line;
     size_t named, width;
     uint32_t absent; /* the named ones that are in no group at the start, bit i - 1 for the ith */
@@ -46,8 +42,6 @@ typedef struct {
     size_t tokens;
     uint32_t token[SHARING_MAX_TOKENS];
 } rules;
-
-void *need(void *memory);
 
 rules *read_rules(const char *path);
 void free_rules(rules *given);

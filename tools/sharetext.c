@@ -2,11 +2,13 @@
  * sharetext: sharing tables and equations in a readable file, and which goals may run side by side.
  * `sharetext --help`, in help.c, says all of it; the manual page sharetext.1 says the same.
  *
+ *     files.c     files, memory for them, and the end of the output
  *     text.c      parts of a text, and messages that show the place of a mistake
  *     reader.c    the reader of a file, line by line; terms.c reads its terms
  *     rules.c     what was read, and its written forms
  *     answers.c   what the library answers of it, in words
  *     groups.c    the groups of its tables, as rows of marks
+ *     forms.c     the forms of its tables, and a readable file of a form
  *     explain.c   the refusals of sharerun in words
  *
  * Every answer is the library's. This program reads, writes an entry for each variable that the
@@ -22,27 +24,45 @@ typedef struct {
     int count;
     char *plain[3];    /* the arguments that are no options */
     const char *after; /* the number of --after, or NULL */
-    bool help;
+    bool packed, help;
 } arguments;
+
+typedef enum { INPUT, EXPLAIN, APART, PAIRS, TABLES, SHOW, FORM, TEXT, COMMANDS } command;
+
+/* Of each command its name, how many arguments it has that are no options, and its options. */
+static const struct {
+    const char *name;
+    int plain;
+    bool has_after, has_packed;
+} commands[COMMANDS] = {[INPUT] = {"input", 1, false, false},
+                        [EXPLAIN] = {"explain", 0, false, false},
+                        [APART] = {"apart", 3, true, false},
+                        [PAIRS] = {"pairs", 1, true, false},
+                        [TABLES] = {"tables", 1, false, false},
+                        [SHOW] = {"show", 1, false, false},
+                        [FORM] = {"form", 1, true, true},
+                        [TEXT] = {"text", 1, false, true}};
 
 /* An argument of one dash is standard input or no variable; those of more letters are options. */
 static bool is_option(const char *argument) { return argument[0] == '-' && argument[1] != '\0'; }
 
-/* The arguments of a command with so many plain ones, and with --after only where it has that. */
-static bool read_arguments(char **argv, int plain, bool has_after, arguments *out) {
+/* The arguments of a command, with the options that it has. */
+static bool read_arguments(char **argv, command c, arguments *out) {
     memset(out, 0, sizeof *out);
     for (; *argv != NULL; argv++) {
         if (strcmp(*argv, "--help") == 0)
             out->help = true;
-        else if (has_after && strcmp(*argv, "--after") == 0 && out->after == NULL &&
+        else if (commands[c].has_after && strcmp(*argv, "--after") == 0 && out->after == NULL &&
                  argv[1] != NULL)
             out->after = *++argv;
-        else if (!is_option(*argv) && out->count < plain)
+        else if (commands[c].has_packed && strcmp(*argv, "--packed") == 0 && !out->packed)
+            out->packed = true;
+        else if (!is_option(*argv) && out->count < commands[c].plain)
             out->plain[out->count++] = *argv;
         else
             return false;
     }
-    return out->help || out->count == plain;
+    return out->help || out->count == commands[c].plain;
 }
 
 /* The point that --after gives: after the last equation where it is not there. */
@@ -55,7 +75,7 @@ static bool read_after(const rules *given, const char *after, size_t *point) {
         return true;
     fprintf(stderr, "sharetext: --after ");
     put_piece(stderr, text);
-    fprintf(stderr, " is no point of %s.\n", given->name);
+    fprintf(stderr, " is no point of %s.\n", given->from.name);
     expected("a number from 0 to %zu, how many of the equations have been applied",
              given->equations);
     return false;
@@ -69,19 +89,6 @@ static int input(const rules *given) {
     return finish(STATUS_YES);
 }
 
-typedef enum { INPUT, EXPLAIN, APART, PAIRS, TABLES, SHOW, COMMANDS } command;
-
-static const struct {
-    const char *name;
-    int plain;
-    bool has_after;
-} commands[COMMANDS] = {[INPUT] = {"input", 1, false},
-                        [EXPLAIN] = {"explain", 0, false},
-                        [APART] = {"apart", 3, true},
-                        [PAIRS] = {"pairs", 1, true},
-                        [TABLES] = {"tables", 1, false},
-                        [SHOW] = {"show", 1, false}};
-
 /* Does what a command does with a file that was read. */
 static int run_on(command c, const rules *given, const arguments *got) {
     size_t after = 0;
@@ -93,6 +100,8 @@ static int run_on(command c, const rules *given, const arguments *got) {
         return apart(given, got->plain + 1, after);
     if (c == PAIRS)
         return pairs(given, after);
+    if (c == FORM)
+        return write_form(given, after, got->packed);
     return c == TABLES ? tables(given) : show(given);
 }
 
@@ -106,6 +115,8 @@ static int run(command c, const arguments *got) {
     }
     if (c == EXPLAIN)
         return explain();
+    if (c == TEXT)
+        return write_text(got->plain[0], got->packed);
     given = open_rules(got->plain[0]);
     if (given != NULL)
         status = run_on(c, given, got);
@@ -128,8 +139,7 @@ int main(int argc, char **argv) {
     if (argc == 2 && without_command(argv[1]))
         return finish(STATUS_YES);
     for (int c = 0; argc > 1 && c < COMMANDS; c++)
-        if (strcmp(argv[1], commands[c].name) == 0 &&
-            read_arguments(argv + 2, commands[c].plain, commands[c].has_after, &got))
+        if (strcmp(argv[1], commands[c].name) == 0 && read_arguments(argv + 2, (command)c, &got))
             return run((command)c, &got);
     print_usage(stderr);
     return STATUS_WRONG;
