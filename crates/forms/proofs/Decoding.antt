@@ -92,7 +92,7 @@ row-told l row {u = u} e = go (good-row l row) refl
     go true h = (rw (e, h), λ good. rw (e, h))
     go false h = (rw (e, h), λ good. absurd (false≢true (rw (e, h) at good)))
 
-module _ (l n : ℕ) (b : List ℕ) where
+module _ (l : ℕ) (b : List ℕ) where
   -- The row at an index.
   abbrev pub row-at : ℕ → List ℕ
   row-at i = take (row-length l) (drop (4 + i * row-length l) b)
@@ -111,6 +111,7 @@ module _ (l n : ℕ) (b : List ℕ) where
       let at = 4 + i * k in
       rw d (length-take-le k (drop at b) (omega (arith, h, length-drop at b)) ∙ e)
 
+module _ (l n : ℕ) (b : List ℕ) where
   -- the rows from an index on
   abbrev pub rows-on : ℕ → List (List ℕ)
   rows-on i = rows (row-length l) (n - i) (drop (4 + i * row-length l) b)
@@ -126,17 +127,17 @@ module _ (l n : ℕ) (b : List ℕ) where
 
   -- a turn: one more row was tested
   pub rows-tested : (i : ℕ) (good : Bool) → i < n → all-well Packed l n b ≡ (good && all-good l (rows-on i))
-      → all-well Packed l n b ≡ ((good && good-row l (row-at i)) && all-good l (rows-on (i + 1)))
+      → all-well Packed l n b ≡ ((good && good-row l (row-at l b i)) && all-good l (rows-on (i + 1)))
   unfolding all-good
   rows-tested i good lt e =
       let k : ℕ = row-length l in
       let m : n - i ≡ suc (n - (i + 1)) = omega arith in
       let at : 4 + i * k + k ≡ 4 + (i + 1) * k = rw (add-one i, suc-mul i k) (omega arith) in
-      let here : rows-on i ≡ row-at i ∷ rows-on (i + 1) =
+      let here : rows-on i ≡ row-at l b i ∷ rows-on (i + 1) =
       ap (λ (j : ℕ). rows k j (drop (4 + i * k) b)) m ∙ rows-from k (n - (i + 1)) (4 + i * k) b
-      ∙ ap (λ (j : ℕ). row-at i ∷ rows k (n - (i + 1)) (drop j b)) at in
+      ∙ ap (λ (j : ℕ). row-at l b i ∷ rows k (n - (i + 1)) (drop j b)) at in
       e ∙ ap (λ (rs : List (List ℕ)). good && all-good l rs) here
-      ∙ sym (and-assoc good (good-row l (row-at i)) (all-good l (rows-on (i + 1))))
+      ∙ sym (and-assoc good (good-row l (row-at l b i)) (all-good l (rows-on (i + 1))))
 
   -- at the end all were
   pub rows-ended : (i : ℕ) (good : Bool) → i ≡ n → all-well Packed l n b ≡ (good && all-good l (rows-on i))
@@ -148,7 +149,7 @@ module _ (l n : ℕ) (b : List ℕ) where
 
   -- the words of good rows hold the entries
   pub rows-hold : (row : List ℕ) → l ≤ 32 → n ≤ limit → form-length Packed l n ≤ length b → length row ≡ limit
-      → ((i : ℕ) → i < n → getD row i 0 ≡ word (unpacked l (row-at i)))
+      → ((i : ℕ) → i < n → getD row i 0 ≡ word (unpacked l (row-at l b i)))
       → Holds l row n (written-entries Packed l n b)
   unfolding written-entries row-positions
   rows-hold row short few long room at =
@@ -157,7 +158,7 @@ module _ (l n : ℕ) (b : List ℕ) where
       let count : n ≡ length (map (unpacked l) rs) = sym (length-map rs (unpacked l) ∙ rows-count k n (drop 4 b)) in
       record {
         here = λ i lt.
-            let there : getD rs i [] ≡ row-at i =
+            let there : getD rs i [] ≡ row-at l b i =
             rows-at k n i (drop 4 b) lt ∙ ap (take k) (drop-drop (i * k) 4 b) in
             at i lt
             ∙ ap word (ap (unpacked l) (sym there) ∙ sym (List·getD-map (unpacked l) rs i [])

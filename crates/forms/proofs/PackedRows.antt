@@ -88,11 +88,12 @@ rows-length l (s ∷ τ) wide =
     length-append (packed s) (rows-of τ) ∙ omega (arith, here, rows-length l τ (wide .1), suc-mul (length τ) k)
 
 -- one more entry
-pub rows-more : (τ : Entries) (s : Trits) → rows-of (τ ++ (s ∷ [])) ≡ rows-of τ ++ packed s
+rows-more : (τ : Entries) (s : Trits) → rows-of (τ ++ (s ∷ [])) ≡ rows-of τ ++ packed s
 unfolding rows-of
 rows-more [] s = append-nil (packed s)
 rows-more (t ∷ τ) s = ap (packed t ++_) (rows-more τ s) ∙ sym (append-assoc (packed t) (rows-of τ) (packed s))
 
+-- the first entries have as many positions
 take-wide : (l : ℕ) (τ : Entries) (i : ℕ) → Wide l τ → Wide l (take i τ)
 unfolding Wide
 take-wide l τ zero wide = tt

@@ -22,7 +22,7 @@ abbrev Inv-loop : tie.InvT-loop
 Inv-loop l n b row₀ table k good₀ i₀ row good i =
     (i ≤ n) × (length row ≡ 256)
     × (all-well Packed l n b ≡ (good && all-good l (rows-on l n b i)))
-    × (good ≡ true → (m : ℕ) → m < i → getD row m 0 ≡ word (unpacked l (row-at l n b m)))
+    × (good ≡ true → (m : ℕ) → m < i → getD row m 0 ≡ word (unpacked l (row-at l b m)))
 
 abbrev μ-loop : tie.MeasureT-loop
 μ-loop l n b row₀ table k good₀ i₀ row good i = n - i
@@ -96,7 +96,7 @@ unpack-requires c κs =
     let a = start at-row-length .args in (
       at-row-length .before .table .ensures,
       start at-row-length .pre .0,
-      part-length (a .l) (a .n) (a .b .now) (at-in-loop .before .loop .i) (at-row-length .row-length .ensures)
+      part-length (a .l) (a .b .now) (at-in-loop .before .loop .i) (at-row-length .row-length .ensures)
           (in-bytes at-in-loop),
     )
 
@@ -122,8 +122,8 @@ loop-again c =
     let at-row-length = at-in-loop .before .before in
     let a = start at-row-length .args in
     let lp = at-in-loop .before .loop in
-    let part = row-part (a .l) (a .n) (a .b .now) (lp .i) (at-row-length .row-length .ensures) in
-    let told = row-told (a .l) (row-at (a .l) (a .n) (a .b .now) (lp .i))
+    let part = row-part (a .l) (a .b .now) (lp .i) (at-row-length .row-length .ensures) in
+    let told = row-told (a .l) (row-at (a .l) (a .b .now) (lp .i))
     (at-unpack .unpack .ensures ∙ ap (unpacked-row (a .l)) part) in (
       omega arith,
       length-set (lp .row) (lp .i) _ ∙ lp .inv .1,
@@ -131,7 +131,7 @@ loop-again c =
           (rows-tested (a .l) (a .n) (a .b .now) (lp .i) (lp .good) (at-in-loop .loop-test .taken) (lp .inv .2)),
       λ good.
           let both = both-true (lp .good) (at-unpack .unpack .result .good) good in
-          run-turn (lp .row) (λ m. word (unpacked (a .l) (row-at (a .l) (a .n) (a .b .now) m))) (lp .i) _
+          run-turn (lp .row) (λ m. word (unpacked (a .l) (row-at (a .l) (a .b .now) m))) (lp .i) _
           (omega (arith, lp .inv .1)) (lp .inv .3 (both .0)) (c .word-of .ensures .1 _ (told .1 (both .1))),
     )
 

@@ -4,10 +4,19 @@ use native.Mathlib.Omega.{arith}
 use borrow.Author.Tests.{not-true, not-false, leb-true}
 use borrow.Author.Needs.{needs}
 use Rattle.tables.proofs.Tests.{both-true}
+use Rattle.forms.specs.EquationForms.{GoodSizes}
 use Rattle.forms.proofs.Outcomes.{equations-unsized, equations-long, equations-torn, equations-sum}
 use Rattle.forms.proofs.Outcomes.{sizes-good, equations-each}
 use Rattle.forms.proofs.equations.check.Statement.{statement}
 use Rattle.forms.proofs.equations.check.Tie as tie
+
+-- where the sizes are there, from where they are read
+abbrev sizes : tie.After-number-at2 → tie.Else1
+sizes c = c .before .before
+
+-- the start, from there
+abbrev start : tie.After-number-at2 → tie.Start
+start c = sizes c .before .before
 
 returns : tie.Need-returns
 returns c = equations-unsized (c .before .before .args .l) (c .before .before .args .b .now) (c .if1 .taken)
@@ -27,11 +36,9 @@ cast-m c = search needs
 returns-2 : tie.Need-returns-2
 returns-2 c =
     let at-number-at2 = c .before in
-    let at-number-at = at-number-at2 .before in
-    let at-if1 = at-number-at .before in
-    let at-start = at-if1 .before .before in
-    equations-long (at-start .args .l) (at-start .args .b .now) _ _ (at-number-at .number-at .ensures)
-    (at-number-at2 .number-at2 .ensures) (at-if1 .if1 .left) (not-true _ (c .if2 .taken))
+    let a = start at-number-at2 .args in
+    equations-long (a .l) (a .b .now) _ _ (at-number-at2 .before .number-at .ensures) (at-number-at2 .number-at2 .ensures)
+    (sizes at-number-at2 .if1 .left) (not-true _ (c .if2 .taken))
 
 mul-if3 : tie.Need-mul-if3
 mul-if3 c = search needs
@@ -49,11 +56,9 @@ returns-3 : tie.Need-returns-3
 returns-3 c =
     let at-if2 = c .before in
     let at-number-at2 = at-if2 .before in
-    let at-number-at = at-number-at2 .before in
-    let at-if1 = at-number-at .before in
-    let at-start = at-if1 .before .before in
-    equations-torn (at-start .args .l) (at-start .args .b .now) _ _ (at-number-at .number-at .ensures)
-    (at-number-at2 .number-at2 .ensures) (at-if1 .if1 .left) (not-false _ (at-if2 .if2 .left)) (c .if3 .taken)
+    let a = start at-number-at2 .args in
+    equations-torn (a .l) (a .b .now) _ _ (at-number-at2 .before .number-at .ensures) (at-number-at2 .number-at2 .ensures)
+    (sizes at-number-at2 .if1 .left) (not-false _ (at-if2 .if2 .left)) (c .if3 .taken)
 
 mul-sum-at : tie.Need-mul-sum-at
 mul-sum-at c = search needs
@@ -72,42 +77,28 @@ returns-4 c =
     let at-if3 = at-sum-at .before in
     let at-if2 = at-if3 .before in
     let at-number-at2 = at-if2 .before in
-    let at-number-at = at-number-at2 .before in
-    let at-if1 = at-number-at .before in
-    let at-start = at-if1 .before .before in
-    equations-sum (at-start .args .l) (at-start .args .b .now) _ _ (at-number-at .number-at .ensures)
-    (at-number-at2 .number-at2 .ensures) (at-if1 .if1 .left) (not-false _ (at-if2 .if2 .left)) (at-if3 .if3 .left)
+    let a = start at-number-at2 .args in
+    equations-sum (a .l) (a .b .now) _ _ (at-number-at2 .before .number-at .ensures) (at-number-at2 .number-at2 .ensures)
+    (sizes at-number-at2 .if1 .left) (not-false _ (at-if2 .if2 .left)) (at-if3 .if3 .left)
     (λ q. c .if4 .taken (at-sum-at .sum-at .ensures ∙ q))
 
-check-each-requires : tie.Need-check-each-requires
-check-each-requires c κs =
+-- where the counts sum up too, the sizes are good
+good : (c : tie.Else4) → GoodSizes (start (c .before .before .before .before) .args .b .now)
+good c =
     let at-sum-at = c .before in
     let at-if3 = at-sum-at .before in
     let at-if2 = at-if3 .before in
     let at-number-at2 = at-if2 .before in
-    let at-number-at = at-number-at2 .before in
-    let at-if1 = at-number-at .before in
-    let at-start = at-if1 .before .before in (
-      at-start .pre,
-      sizes-good (at-start .args .l) (at-start .args .b .now) _ _ (at-number-at .number-at .ensures)
-          (at-number-at2 .number-at2 .ensures) (at-if1 .if1 .left) (not-false _ (at-if2 .if2 .left)) (at-if3 .if3 .left)
-          (sym (at-sum-at .sum-at .ensures) ∙ c .if4 .left),
-    )
+    let a = start at-number-at2 .args in
+    sizes-good (a .l) (a .b .now) _ _ (at-number-at2 .before .number-at .ensures) (at-number-at2 .number-at2 .ensures)
+    (sizes at-number-at2 .if1 .left) (not-false _ (at-if2 .if2 .left)) (at-if3 .if3 .left)
+    (sym (at-sum-at .sum-at .ensures) ∙ c .if4 .left)
+
+check-each-requires : tie.Need-check-each-requires
+check-each-requires c κs = (start (c .before .before .before .before) .pre, good c)
 
 returns-5 : tie.Need-returns-5
-returns-5 c =
-    let at-if4 = c .before in
-    let at-sum-at = at-if4 .before in
-    let at-if3 = at-sum-at .before in
-    let at-if2 = at-if3 .before in
-    let at-number-at2 = at-if2 .before in
-    let at-number-at = at-number-at2 .before in
-    let at-if1 = at-number-at .before in
-    let at-start = at-if1 .before .before in
-    c .check-each .ensures
-    ∙ equations-each (at-start .args .l) (sizes-good (at-start .args .l) (at-start .args .b .now) _ _
-    (at-number-at .number-at .ensures) (at-number-at2 .number-at2 .ensures) (at-if1 .if1 .left)
-    (not-false _ (at-if2 .if2 .left)) (at-if3 .if3 .left) (sym (at-sum-at .sum-at .ensures) ∙ at-if4 .if4 .left))
+returns-5 c = c .check-each .ensures ∙ equations-each _ (good (c .before))
 
 pub check-spec : {M : Type 1} → statement M
 check-spec = tie.close
