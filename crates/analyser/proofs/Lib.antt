@@ -1,1 +1,2 @@
 pub mod SameOutput
+pub mod StepRows

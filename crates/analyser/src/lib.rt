@@ -1,15 +1,18 @@
 // The analyser for C: every call of include/sharing.h. Each returns 0 where it is accepted, else the number of the refusal; after
 // a refusal every byte that was lent holds what it held. A side is a number: 0 is positive, any other negative.
+use equation_forms::Left;
 use forms::Extent;
 use forms::Layout;
 use running::Running;
 ghost use mathlib.Core.Path.{_≡_};
 ghost use Rattle.operations.specs.Operations.{side-numbered, convert-call};
 ghost use Rattle.forms.specs.declared.Extent.the-variants.{Whole};
+ghost use Rattle.terms.specs.Checks.{one-term, two-terms};
 ghost use Rattle.forms.specs.declared.Layout.the-variants.{Packed};
+ghost use Rattle.equation_forms.specs.declared.Left.the-variants.{Variable, Term};
 ghost use Rattle.forms.specs.TableForms.{read-table, read-packed};
 ghost use Rattle.byte_calls.specs.ByteCalls.{change-side-bytes, equation-bytes, join-bytes, projection-bytes, equal-bytes};
-ghost use Rattle.byte_calls.specs.ByteCalls.{ground-bytes, independent-bytes};
+ghost use Rattle.byte_calls.specs.ByteCalls.{unify-bytes, ground-bytes, independent-bytes};
 ghost use Rattle.questions.specs.Replies.{reply-number, reply-word};
 ghost use Rattle.byte_calls.specs.Outputs.{output-number-as, output-bytes-as, output-number, output-bytes};
 ghost use Rattle.byte_calls.specs.BufferParts.{lent, smaller-part};
@@ -88,6 +91,31 @@ pub extern "C" fn sharing_equation(
 {
     byte_calls::outputs::write(
         byte_calls::equation(operations::side_numbered(side), table, variable, term),
+        out,
+    )
+}
+
+// Sets two terms equal: walks them together and applies the equations found, or leaves no groups where they clash.
+#[no_mangle]
+pub extern "C" fn sharing_unify(
+    side: u32,
+    table: &[u8],
+    left: &[u8],
+    right: &[u8],
+    out: &mut [u8],
+) -> u32
+    ensures number { λ r. ⌜
+        r ≡ output-number (unify-bytes (side-numbered side) (now (table .entry)) (now (left .entry)) (now (right .entry)))
+        (now (out .entry))
+        ⌝ }
+    ensures bytes { λ r. ⌜
+        now (out .exit)
+        ≡ output-bytes (unify-bytes (side-numbered side) (now (table .entry)) (now (left .entry)) (now (right .entry)))
+        (now (out .entry))
+        ⌝ }
+{
+    byte_calls::outputs::write(
+        byte_calls::unify(operations::side_numbered(side), table, left, right),
         out,
     )
 }
@@ -183,12 +211,20 @@ pub extern "C" fn sharing_smaller<'a, 'b>(
     *part = byte_calls::outputs::smaller(positive, negative);
 }
 
-// Applies equations in order, after the whole input was checked.
+// Applies equations in order, each with a variable on the left, after the whole input was checked.
 #[no_mangle]
 pub extern "C" fn sharing_run(side: u32, table: &[u8], equations: &[u8]) -> Running
-    ensures { λ r. ⌜ r ≡ run-state side (now (table .entry)) (now (equations .entry)) ⌝ }
+    ensures { λ r. ⌜ r ≡ run-state Variable side (now (table .entry)) (now (equations .entry)) ⌝ }
 {
-    running::run(side, table, equations)
+    running::run(Left::Variable, side, table, equations)
+}
+
+// Applies equations in order, each of two terms, after the whole input was checked.
+#[no_mangle]
+pub extern "C" fn sharing_unify_run(side: u32, table: &[u8], equations: &[u8]) -> Running
+    ensures { λ r. ⌜ r ≡ run-state Term side (now (table .entry)) (now (equations .entry)) ⌝ }
+{
+    running::run(Left::Term, side, table, equations)
 }
 
 // Starts a running analysis.
@@ -203,13 +239,26 @@ pub extern "C" fn sharing_start(side: u32, table: &[u8]) -> Running
 #[no_mangle]
 pub extern "C" fn sharing_step(state: &mut Running, variable: u32, term: &[u8]) -> u32
     ensures { λ r. ⌜
-        (now (state .exit) ≡ advanced (now (state .entry)) variable (now (term .entry)))
-        × (r ≡ step-number (now (state .entry)) variable (now (term .entry)))
+        (now (state .exit) ≡ advanced (now (state .entry)) (one-term variable (now (term .entry))))
+        × (r ≡ step-number (now (state .entry)) (one-term variable (now (term .entry))))
         ⌝ }
 {
     let stepped = running::advance(*state, variable, term);
     *state = stepped.state;
     stepped.number
+}
+
+// Sets two terms equal in a running analysis; a refusal leaves the whole state as it was.
+#[no_mangle]
+pub extern "C" fn sharing_unify_step(state: &mut Running, left: &[u8], right: &[u8]) -> u32
+    ensures { λ r. ⌜
+        (now (state .exit) ≡ advanced (now (state .entry)) (two-terms (now (left .entry)) (now (right .entry))))
+        × (r ≡ step-number (now (state .entry)) (two-terms (now (left .entry)) (now (right .entry))))
+        ⌝ }
+{
+    let unified = running::unify(*state, left, right);
+    *state = unified.state;
+    unified.number
 }
 
 // Writes the table of a running analysis.

@@ -1,8 +1,8 @@
 -- What a call on bytes is after each of its checks: refused, or the call on what was read. Assumes nothing.
-use mathlib.Core.Path.{_≡_, refl, sym, ap, _∙_}
-use mathlib.Core.Bool.{Bool, true, false}
+use mathlib.Core.Path.{_≡_, refl, sym, ap, ap₂, _∙_}
+use mathlib.Core.Bool.{cond}
 use mathlib.Core.List.{List, [], _∷_}
-use Prim.Native.Nat.{ℕ, _/_, _%_, _≤_}
+use Prim.Native.Nat.{ℕ, _+_, _/_, _%_, _≤_}
 use native.Mathlib.Omega.{arith}
 use borrow.Author.Tests.{leb-true}
 use lib.Dec.{leb, eqb}
@@ -18,13 +18,15 @@ use Rattle.tables.specs.declared.Answered.{Answered}
 use Rattle.tables.specs.Refusals.{if-accepted, member, one-of, Numbered}
 use Rattle.tables.specs.Values.{refuses, check-table}
 use Rattle.tables.proofs.Numbers.{refused-numbered, accepted-numbered, test-numbered}
-use Rattle.terms.specs.Checks.{most-tokens}
-use Rattle.operations.specs.Operations.{equation-call}
+use Rattle.terms.specs.Checks.{most-tokens, Written, one-term, two-terms}
+use Rattle.operations.specs.Operations.{equation-call, unify-call, written-call}
 use Rattle.codec.specs.Numbers.{numbers, with-zeros}
 use Rattle.codec.proofs.Laws.{length-numbers}
 use Rattle.forms.specs.declared.Extent.the-variants.{Whole}
 use Rattle.forms.specs.TableForms.{read-table}
-use Rattle.byte_calls.specs.ByteCalls.{check-bytes, tokens-of, term-call, after-read}
+use Rattle.forms.proofs.Tests.{held}
+use Rattle.byte_calls.specs.ByteCalls.{check-bytes, check-both-bytes, tokens-of, term-call, terms-call, written-tokens}
+use Rattle.byte_calls.specs.ByteCalls.{value-call, after-read}
 
 -- ---- After a table was read
 
@@ -40,15 +42,28 @@ module _ {A : Type 0} (b : List ℕ) {a : Answered} (is : a ≡ read-table Whole
   unfolding after-read if-accepted
   read-accepted e = rw (answer-read e) (ap (λ (y : Answered). next (y .table)) is)
 
--- ---- A term as bytes
+-- ---- An equation as bytes
 
-pub bytes-few : (b : List ℕ) → check-bytes b ≡ Accepted → length b / 2 ≤ most-tokens
-unfolding check-bytes
-bytes-few b e = go (leb (length b / 2) most-tokens) refl
-  where
-    go : (p : Bool) → leb (length b / 2) most-tokens ≡ p → length b / 2 ≤ most-tokens
-    go true h = leb-true (length b / 2) most-tokens h
-    go false h = absurd (let z : _≡_ {A = ℕ} 0 1 = cc in omega arith)
+-- How the bytes of an equation are answered before its tokens are looked at.
+unfoldable pub check-all-bytes : Written → Answer
+check-all-bytes (one-term x b) = check-bytes b
+check-all-bytes (two-terms b c) = check-both-bytes b c
+
+-- They are refused by 7 or 1.
+pub bytes-numbers : (w : Written) → Numbered (7 ∷ 1 ∷ []) (check-all-bytes w)
+unfolding check-all-bytes check-bytes check-both-bytes one-of member
+bytes-numbers (one-term x b) =
+    let ns : List ℕ = 7 ∷ 1 ∷ [] in
+    test-numbered ns (leb (length b / 2) most-tokens) _ _
+    (test-numbered ns (eqb (length b % 2) 0) _ _ (accepted-numbered ns) (refused-numbered ns R.Torn tt))
+    (refused-numbered ns R.Long tt)
+bytes-numbers (two-terms b c) =
+    let ns : List ℕ = 7 ∷ 1 ∷ [] in
+    test-numbered ns (leb (length b / 2 + length c / 2) most-tokens) _ _
+    (test-numbered ns (eqb (length b % 2) 0) _ _
+    (test-numbered ns (eqb (length c % 2) 0) _ _ (accepted-numbered ns) (refused-numbered ns R.Torn tt))
+    (refused-numbered ns R.Torn tt))
+    (refused-numbered ns R.Long tt)
 
 -- a table is checked once
 checked-once : (y : Answer) (stop : Refusal → Answered) (a : Answered)
@@ -57,20 +72,49 @@ unfolding if-accepted
 checked-once Accepted stop a = refl
 checked-once (Refused r) stop a = refl
 
--- An equation whose term's bytes pass is the equation on their tokens.
+-- An equation whose bytes pass is the equation on their tokens.
+pub bytes-passed : (side : Side) (t : Table) (w : Written) → check-all-bytes w ≡ Accepted
+    → value-call side t w ≡ written-call side t (written-tokens w)
+unfolding check-all-bytes value-call term-call terms-call written-call written-tokens equation-call unify-call if-accepted
+bytes-passed side t (one-term x b) e = rw e (checked-once (check-table t) (λ r. refuses r t) _)
+bytes-passed side t (two-terms b c) e = rw e (checked-once (check-table t) (λ r. refuses r t) _)
+
+-- The same of each kind.
 pub term-passed : (side : Side) (t : Table) (x : ℕ) (term : List ℕ) → check-bytes term ≡ Accepted
     → term-call side t x term ≡ equation-call side t x (tokens-of term)
-unfolding term-call equation-call if-accepted
-term-passed side t x term e = rw e (checked-once (check-table t) (λ r. refuses r t) _)
+unfolding check-all-bytes value-call written-call written-tokens
+term-passed side t x term e = bytes-passed side t (one-term x term) e
 
--- The bytes of a term are refused by 7 or 1.
-pub term-bytes-numbers : (b : List ℕ) → Numbered (7 ∷ 1 ∷ []) (check-bytes b)
-unfolding check-bytes one-of member
-term-bytes-numbers b =
-    let ns : List ℕ = 7 ∷ 1 ∷ [] in
-    test-numbered ns (leb (length b / 2) most-tokens) _ _
-    (test-numbered ns (eqb (length b % 2) 0) _ _ (accepted-numbered ns) (refused-numbered ns R.Torn tt))
-    (refused-numbered ns R.Long tt)
+pub terms-passed : (side : Side) (t : Table) (left right : List ℕ) → check-both-bytes left right ≡ Accepted
+    → terms-call side t left right ≡ unify-call side t (tokens-of left) (tokens-of right)
+unfolding check-all-bytes value-call written-call written-tokens
+terms-passed side t left right e = bytes-passed side t (two-terms left right) e
+
+-- One whose bytes do not pass is refused, on a table that passes its own check.
+pub bytes-refused : (side : Side) (t : Table) (w : Written) {r : Refusal} → check-table t ≡ Accepted
+    → check-all-bytes w ≡ Refused r → refuses r t ≡ value-call side t w
+unfolding check-all-bytes value-call term-call terms-call if-accepted
+bytes-refused side t (one-term x b) good e = rw (good, e)
+bytes-refused side t (two-terms b c) good e = rw (good, e)
+
+-- ---- A term as bytes, in the code
+
+-- so many tokens, where the first test is passed
+few-tokens : (n : ℕ) (a : Answer) → cond (leb n most-tokens) a (Refused R.Long) ≡ Accepted → n ≤ most-tokens
+few-tokens n a e =
+    let clash : _≡_ {A = Answer} (Refused R.Long) Accepted → ⊥ = λ f. absurd (let z : _≡_ {A = ℕ} 0 1 = cc in omega arith) in
+    leb-true n most-tokens (held (leb n most-tokens) a _ Accepted e clash .0)
+
+pub bytes-few : (b : List ℕ) → check-bytes b ≡ Accepted → length b / 2 ≤ most-tokens
+unfolding check-bytes
+bytes-few b e = few-tokens (length b / 2) _ e
+
+-- the code takes the tokens from the array that they were read into
+pub tokens-taken : (b : List ℕ) {row : List ℕ} → row ≡ with-zeros most-tokens (numbers (length b / 2) b)
+    → take (length b / 2) row ≡ tokens-of b
+unfolding tokens-of with-zeros
+tokens-taken b filled =
+    rw filled (take-at (numbers (length b / 2) b) _ (length b / 2) (length-numbers (length b / 2) b))
 
 module _ (side : Side) (t : Table) (x : ℕ) (b : List ℕ) where
   pub term-table-refused : {r : Refusal} → check-table t ≡ Refused r → refuses r t ≡ term-call side t x b
@@ -79,14 +123,33 @@ module _ (side : Side) (t : Table) (x : ℕ) (b : List ℕ) where
 
   module _ (good : check-table t ≡ Accepted) where
     pub term-bytes-refused : {r : Refusal} → check-bytes b ≡ Refused r → refuses r t ≡ term-call side t x b
-    unfolding term-call if-accepted
-    term-bytes-refused e = rw (good, e)
+    unfolding check-all-bytes value-call
+    term-bytes-refused e = bytes-refused side t (one-term x b) good e
 
-    -- the code takes the tokens from the array that they were read into
     pub term-bytes-accepted : check-bytes b ≡ Accepted → {row : List ℕ}
         → row ≡ with-zeros most-tokens (numbers (length b / 2) b)
         → equation-call side t x (take (length b / 2) row) ≡ term-call side t x b
-    unfolding term-call if-accepted tokens-of with-zeros
-    term-bytes-accepted e filled =
-        rw (good, e, filled)
-        (ap (equation-call side t x) (take-at (numbers (length b / 2) b) _ (length b / 2) (length-numbers (length b / 2) b)))
+    term-bytes-accepted e filled = ap (equation-call side t x) (tokens-taken b filled) ∙ sym (term-passed side t x b e)
+
+-- ---- Two terms as bytes, in the code
+
+pub both-bytes-few : (b c : List ℕ) → check-both-bytes b c ≡ Accepted → length b / 2 + length c / 2 ≤ most-tokens
+unfolding check-both-bytes
+both-bytes-few b c e = few-tokens (length b / 2 + length c / 2) _ e
+
+module _ (side : Side) (t : Table) (b c : List ℕ) where
+  -- the tokens of both, from the arrays that they were read into
+  pub terms-taken : {row other : List ℕ} → row ≡ with-zeros most-tokens (numbers (length b / 2) b)
+      → other ≡ with-zeros most-tokens (numbers (length c / 2) c)
+      → unify-call side t (take (length b / 2) row) (take (length c / 2) other)
+      ≡ unify-call side t (tokens-of b) (tokens-of c)
+  terms-taken filled also = ap₂ (unify-call side t) (tokens-taken b filled) (tokens-taken c also)
+
+  pub terms-table-refused : {r : Refusal} → check-table t ≡ Refused r → refuses r t ≡ terms-call side t b c
+  unfolding terms-call if-accepted
+  terms-table-refused e = rw e
+
+  pub terms-bytes-refused : {r : Refusal} → check-table t ≡ Accepted → check-both-bytes b c ≡ Refused r
+      → refuses r t ≡ terms-call side t b c
+  unfolding check-all-bytes value-call
+  terms-bytes-refused good e = bytes-refused side t (two-terms b c) good e

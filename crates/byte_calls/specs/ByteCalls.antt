@@ -2,7 +2,7 @@
 -- question's own, then 8.
 use mathlib.Core.Bool.{cond}
 use mathlib.Core.List.{List}
-use Prim.Native.Nat.{ℕ, _/_, _%_}
+use Prim.Native.Nat.{ℕ, _+_, _/_, _%_}
 use lib.Dec.{leb, eqb}
 use lib.ListN.{length}
 use Rattle.model.specs.Tables.{Side}
@@ -14,8 +14,8 @@ use Rattle.tables.specs.declared.Answer.the-variants.{Accepted, Refused}
 use Rattle.tables.specs.declared.Answered.{Answered}
 use Rattle.tables.specs.Refusals.{if-accepted}
 use Rattle.tables.specs.Values.{zero-table, refuses, check-table}
-use Rattle.terms.specs.Checks.{most-tokens}
-use Rattle.operations.specs.Operations.{equation-call, join-call, projection-call, change-side-call}
+use Rattle.terms.specs.Checks.{most-tokens, Written, one-term, two-terms}
+use Rattle.operations.specs.Operations.{equation-call, unify-call, join-call, projection-call, change-side-call}
 use Rattle.questions.specs.declared.Reply.{Reply}
 use Rattle.questions.specs.declared.Reply.the-variants as Q
 use Rattle.questions.specs.Replies.{equal-call, ground-call, independent-call}
@@ -40,6 +40,34 @@ term-call side t x b =
     if-accepted (check-table t) (λ r. refuses r t) (if-accepted (check-bytes b) (λ r. refuses r t)
     (equation-call side t x (tokens-of b)))
 
+-- ---- Two terms as bytes
+
+-- 7 where the halves of the two lengths, each rounded down, are together above 1024; 1 where the left length is odd, then the
+-- right.
+unfoldable pub check-both-bytes : List ℕ → List ℕ → Answer
+check-both-bytes b c =
+    cond (leb (length b / 2 + length c / 2) most-tokens)
+    (cond (eqb (length b % 2) 0) (cond (eqb (length c % 2) 0) Accepted (Refused R.Torn)) (Refused R.Torn))
+    (Refused R.Long)
+
+-- Two terms as bytes set equal, on a table value: 2, 3, 4 of the table; 7, 1, 1 of the bytes; then as on tokens.
+unfoldable pub terms-call : Side → Table → List ℕ → List ℕ → Answered
+terms-call side t b c =
+    if-accepted (check-table t) (λ r. refuses r t) (if-accepted (check-both-bytes b c) (λ r. refuses r t)
+    (unify-call side t (tokens-of b) (tokens-of c)))
+
+-- ---- Either kind
+
+-- An equation that is written in bytes, in tokens.
+unfoldable pub written-tokens : Written → Written
+written-tokens (one-term x b) = one-term x (tokens-of b)
+written-tokens (two-terms b c) = two-terms (tokens-of b) (tokens-of c)
+
+-- The call on an equation of either kind, written in bytes, on a table value.
+unfoldable pub value-call : Side → Table → Written → Answered
+value-call side t (one-term x b) = term-call side t x b
+value-call side t (two-terms b c) = terms-call side t b c
+
 -- ---- Tables as bytes
 
 -- Where the bytes read as a table it goes on with that, else it stops with what is made of the refusal.
@@ -57,6 +85,15 @@ change-side-bytes side b = after-read b refuses-zero (change-side-call side)
 -- One equation.
 unfoldable pub equation-bytes : Side → List ℕ → ℕ → List ℕ → Answered
 equation-bytes side b x term = after-read b refuses-zero (λ t. term-call side t x term)
+
+-- Two terms set equal.
+unfoldable pub unify-bytes : Side → List ℕ → List ℕ → List ℕ → Answered
+unify-bytes side b left right = after-read b refuses-zero (λ t. terms-call side t left right)
+
+-- Either kind.
+unfoldable pub written-bytes : Side → List ℕ → Written → Answered
+written-bytes side b (one-term x term) = equation-bytes side b x term
+written-bytes side b (two-terms left right) = unify-bytes side b left right
 
 -- Join.
 unfoldable pub join-bytes : Side → List ℕ → List ℕ → Answered

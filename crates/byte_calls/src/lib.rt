@@ -9,9 +9,12 @@ use tables::Answered;
 use tables::Refusal;
 use tables::Table;
 ghost use mathlib.Core.Path.{_≡_};
-ghost use Rattle.operations.specs.Operations.{side-of};
+ghost use Rattle.tables.specs.declared.Answer.the-variants.{Accepted};
+ghost use Rattle.tables.specs.Values.{GoodTable};
+ghost use Rattle.operations.specs.Operations.{side-of, unify-call};
 ghost use Rattle.byte_calls.specs.ByteCalls.{check-bytes, term-call, change-side-bytes, equation-bytes, join-bytes};
 ghost use Rattle.byte_calls.specs.ByteCalls.{projection-bytes, equal-bytes, ground-bytes, independent-bytes};
+ghost use Rattle.byte_calls.specs.ByteCalls.{check-both-bytes, tokens-of, terms-call, unify-bytes};
 
 // The bytes of a term handed over by itself: 7 where half the length, rounded down, is above 1024; 1 where it is odd.
 fn check_bytes(term: &[u8]) -> Answer
@@ -44,6 +47,50 @@ pub fn equation_term(side: Side, t: Table, x: u32, term: &[u8]) -> Answered
     }
 }
 
+// The bytes of two terms handed over by themselves: 7 where the halves of the lengths, each rounded down, are together above
+// 1024; 1 where the left length is odd, then the right.
+fn check_both_bytes(left: &[u8], right: &[u8]) -> Answer
+    ensures { λ r. ⌜ r ≡ check-both-bytes (now (left .entry)) (now (right .entry)) ⌝ }
+{
+    if codec::TOKENS < left.len() / 2 + right.len() / 2 {
+        return Answer::Refused(Refusal::Long);
+    }
+    if left.len() % 2 != 0 {
+        return Answer::Refused(Refusal::Torn);
+    }
+    if right.len() % 2 != 0 {
+        return Answer::Refused(Refusal::Torn);
+    }
+    Answer::Accepted
+}
+
+// The terms of two rows of bytes, short enough and of even length, set equal on a checked table.
+fn unify_tokens(side: Side, t: Table, left: &[u8], right: &[u8]) -> Answered
+    requires { ⌜ GoodTable t × (check-both-bytes (now left) (now right) ≡ Accepted) ⌝ }
+    ensures { λ r. ⌜ r ≡ unify-call (side-of side) t (tokens-of (now (left .entry))) (tokens-of (now (right .entry))) ⌝ }
+{
+    let n = left.len() / 2;
+    let first = codec::tokens_at(left, 0, n);
+    let lefts: &[u16] = &first;
+    let m = right.len() / 2;
+    let second = codec::tokens_at(right, 0, m);
+    let rights: &[u16] = &second;
+    operations::unify_checked(side, t, &lefts[..n], &rights[..m])
+}
+
+// The terms of two rows of bytes set equal, on a table value.
+pub fn unify_terms(side: Side, t: Table, left: &[u8], right: &[u8]) -> Answered
+    ensures { λ r. ⌜ r ≡ terms-call (side-of side) t (now (left .entry)) (now (right .entry)) ⌝ }
+{
+    match tables::check(t) {
+        Answer::Refused(r) => operations::refused(r, t),
+        Answer::Accepted => match check_both_bytes(left, right) {
+            Answer::Refused(r) => operations::refused(r, t),
+            Answer::Accepted => unify_tokens(side, t, left, right),
+        },
+    }
+}
+
 // The change of side of the table of the bytes.
 pub fn change_side(side: Side, b: &[u8]) -> Answered
     ensures { λ r. ⌜ r ≡ change-side-bytes (side-of side) (now (b .entry)) ⌝ }
@@ -67,6 +114,19 @@ pub fn equation(side: Side, b: &[u8], x: u32, term: &[u8]) -> Answered
     match answer {
         Answer::Refused(r) => tables::refused(r),
         Answer::Accepted => equation_term(side, t, x, term),
+    }
+}
+
+// The terms of two rows of bytes set equal, on the table of the bytes.
+pub fn unify(side: Side, b: &[u8], left: &[u8], right: &[u8]) -> Answered
+    ensures { λ r. ⌜ r ≡ unify-bytes (side-of side) (now (b .entry)) (now (left .entry)) (now (right .entry)) ⌝ }
+{
+    let read = forms::read_table(Extent::Whole, b);
+    let answer = read.answer;
+    let t = read.table;
+    match answer {
+        Answer::Refused(r) => tables::refused(r),
+        Answer::Accepted => unify_terms(side, t, left, right),
     }
 }
 

@@ -39,7 +39,7 @@ pub fn tokens_at(b: &[u8], at: usize, n: usize) -> [u16; TOKENS]
 
 // The sum of the n numbers from an index on, a true sum.
 pub fn sum_at(b: &[u8], at: usize, n: usize) -> usize
-    requires { ⌜ (n ≤ 64) × (at + 2 * n ≤ length (now b)) ⌝ }
+    requires { ⌜ (n ≤ 128) × (at + 2 * n ≤ length (now b)) ⌝ }
     ensures { λ r. ⌜ r ≡ sum (numbers n (drop at (now (b .entry)))) ⌝ }
 {
     let mut total = 0usize;

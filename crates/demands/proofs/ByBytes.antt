@@ -13,14 +13,16 @@ use Rattle.tables.specs.declared.Answer.the-variants.{Accepted, Refused}
 use Rattle.tables.specs.declared.Answered.{Answered}
 use Rattle.tables.specs.Values.{zero-table, refuses, GoodTable}
 use Rattle.tables.proofs.Checking.{good-passes}
-use Rattle.operations.specs.Operations.{equation-call, join-call, projection-call, change-side-call}
+use Rattle.terms.specs.Checks.{Written, one-term, two-terms}
+use Rattle.operations.specs.Operations.{written-call, join-call, projection-call, change-side-call}
 use Rattle.questions.specs.declared.Reply.{Reply}
 use Rattle.questions.specs.declared.Reply.the-variants as Q
 use Rattle.questions.specs.Replies.{equal-call, ground-call, independent-call}
-use Rattle.byte_calls.specs.ByteCalls.{check-bytes, tokens-of, term-call, refuses-zero, after-read, change-side-bytes}
-use Rattle.byte_calls.specs.ByteCalls.{equation-bytes, join-bytes, projection-bytes, equal-bytes, ground-bytes, independent-bytes}
+use Rattle.byte_calls.specs.ByteCalls.{written-tokens, value-call, refuses-zero, after-read, change-side-bytes}
+use Rattle.byte_calls.specs.ByteCalls.{equation-bytes, unify-bytes, written-bytes, join-bytes, projection-bytes}
+use Rattle.byte_calls.specs.ByteCalls.{equal-bytes, ground-bytes, independent-bytes}
+use Rattle.byte_calls.proofs.AfterChecks.{read-accepted, read-refused, check-all-bytes, bytes-passed, bytes-refused}
 use Rattle.demands.specs.Demand2.{Reads, Unread}
-use Rattle.byte_calls.proofs.AfterChecks.{read-accepted, read-refused, term-passed, term-bytes-refused}
 
 -- ---- Any call, any question
 
@@ -35,16 +37,22 @@ module _ {A : Type 0} (b : List ℕ) where
 
 -- ---- The calls on one table
 
+-- Either kind of equation on bytes reads the table and goes on with the call on what was read.
+pub one-reading : (side : Side) (b : List ℕ) (w : Written)
+    → written-bytes side b w ≡ after-read b refuses-zero (λ t. value-call side t w)
+unfolding written-bytes equation-bytes unify-bytes value-call
+one-reading side b (one-term x term) = refl
+one-reading side b (two-terms left right) = refl
+
 module _ (side : Side) (b : List ℕ) {t : Table} (e : Reads b t) where
   -- The change of side on bytes is that of the table that they read as.
   pub change-side-by-bytes : change-side-bytes side b ≡ change-side-call side t
   unfolding change-side-bytes
   change-side-by-bytes = call-by-bytes b e refuses-zero (change-side-call side)
 
-  -- The equation on bytes is that of the table that they read as, with its term as bytes.
-  pub equation-by-bytes : (x : ℕ) (term : List ℕ) → equation-bytes side b x term ≡ term-call side t x term
-  unfolding equation-bytes
-  equation-by-bytes x term = call-by-bytes b e refuses-zero (λ u. term-call side u x term)
+  -- The equation on bytes, x = t or two terms, is that of the table that they read as, with its terms as bytes.
+  pub equation-by-bytes : (w : Written) → written-bytes side b w ≡ value-call side t w
+  equation-by-bytes w = one-reading side b w ∙ call-by-bytes b e refuses-zero (λ u. value-call side u w)
 
   -- The projection on bytes is that of the table that they read as.
   pub projection-by-bytes : (keep : ℕ) → projection-bytes side b keep ≡ projection-call side t keep
@@ -67,10 +75,9 @@ module _ (side : Side) (b : List ℕ) {r : Refusal} (e : Unread b r) where
   unfolding change-side-bytes
   change-side-unread = call-unread b e refuses-zero (change-side-call side)
 
-  -- So is the equation.
-  pub equation-unread : (x : ℕ) (term : List ℕ) → equation-bytes side b x term ≡ refuses r zero-table
-  unfolding equation-bytes
-  equation-unread x term = call-unread b e refuses-zero (λ u. term-call side u x term)
+  -- So is the equation, x = t or two terms.
+  pub equation-unread : (w : Written) → written-bytes side b w ≡ refuses r zero-table
+  equation-unread w = one-reading side b w ∙ call-unread b e refuses-zero (λ u. value-call side u w)
 
   -- So is the projection.
   pub projection-unread : (keep : ℕ) → projection-bytes side b keep ≡ refuses r zero-table
@@ -129,31 +136,31 @@ module _ (b c : List ℕ) where
   unfolding equal-bytes
   equal-second-unread {t} e f = call-by-bytes b e Q.Refused equal-second ∙ call-unread c f Q.Refused (equal-call t)
 
--- ---- A term as bytes
+-- ---- Terms as bytes
 
-module _ (side : Side) (t : Table) (x : ℕ) (term : List ℕ) where
+module _ (side : Side) (t : Table) (w : Written) where
   -- the call on the tokens of the bytes
   abbrev on-tokens : Answered
-  on-tokens = equation-call side t x (tokens-of term)
+  on-tokens = written-call side t (written-tokens w)
 
   -- It is the equation on the tokens, or it is refused, with the table as given.
   abbrev pub TokensOrRefused : Type 0
-  TokensOrRefused = (term-call side t x term ≡ on-tokens) ⊎ ((r : Refusal) × (term-call side t x term ≡ refuses r t))
+  TokensOrRefused = (value-call side t w ≡ on-tokens) ⊎ ((r : Refusal) × (value-call side t w ≡ refuses r t))
 
   module _ (good : GoodTable t) where
-    -- An equation with its term as bytes, on a good table, is one of these.
+    -- An equation with its terms as bytes, on a good table, is one of these.
     pub tokens-or-refused : TokensOrRefused
-    tokens-or-refused = go (check-bytes term) refl
+    tokens-or-refused = go (check-all-bytes w) refl
       where
-        go : (a : Answer) → check-bytes term ≡ a → TokensOrRefused
-        go Accepted e = inl (term-passed side t x term e)
-        go (Refused r) e = inr (r, sym (term-bytes-refused side t x term (good-passes t good) e))
+        go : (a : Answer) → check-all-bytes w ≡ a → TokensOrRefused
+        go Accepted e = inl (bytes-passed side t w e)
+        go (Refused r) e = inr (r, sym (bytes-refused side t w (good-passes t good) e))
 
-    -- An accepted equation with its term as bytes is the equation on the tokens.
-    pub term-accepted : term-call side t x term .answer ≡ Accepted → term-call side t x term ≡ on-tokens
-    term-accepted a = go tokens-or-refused
+    -- An accepted equation with its terms as bytes is the equation on the tokens.
+    pub bytes-accepted : value-call side t w .answer ≡ Accepted → value-call side t w ≡ on-tokens
+    bytes-accepted a = go tokens-or-refused
       where
-        go : TokensOrRefused → term-call side t x term ≡ on-tokens
+        go : TokensOrRefused → value-call side t w ≡ on-tokens
         go (inl e) = e
         go (inr (r, e)) =
             let clash : Refused r ≡ Accepted = ap (λ (y : Answered). y .answer) (sym e) ∙ a in

@@ -9,9 +9,7 @@ use native.Mathlib.Omega.{arith}
 use lib.Dec.{T, leb}
 use Rattle.model.specs.Groups.{Joined}
 use Rattle.model.specs.Growth.{limit}
-use Rattle.model.specs.Terms.{Term}
 use Rattle.model.specs.Tables.{Side, groups}
-use Rattle.model.specs.Equations.{After}
 use Rattle.tables.specs.declared.Table.{Table}
 use Rattle.tables.specs.declared.Refusal.{Refusal}
 use Rattle.tables.specs.declared.Refusal.the-variants as R
@@ -22,13 +20,15 @@ use Rattle.tables.specs.Refusals.{member, one-of}
 use Rattle.tables.specs.Values.{table-of, zero-table, accepts, refuses, good-width, check-table}
 use Rattle.tables.proofs.Checking.{good-passes, good-long}
 use Rattle.tables.proofs.Numbers.{within, one-of-more}
+use Rattle.terms.specs.Checks.{Written, one-term, two-terms}
 use Rattle.terms.specs.Checks as C
-use Rattle.operations.specs.Operations.{good-keep, join-call, projection-call, change-side-call}
-use Rattle.operations.specs.Outcomes.{TableValue, groups-of, Becomes, Outcome, early, full, accepted, EquationNeeds, JoinNeeds}
-use Rattle.operations.specs.Outcomes.{ProjectionNeeds, ChangeNeeds}
-use Rattle.operations.proofs.Demand2.{convert-outcome, equation-outcome, join-outcome, projection-outcome, change-outcome}
+use Rattle.operations.specs.Operations.{good-keep, written-call, join-call, projection-call, change-side-call}
+use Rattle.operations.specs.Outcomes.{TableValue, groups-of, Becomes, Outcome, early, full, accepted, EquationNeeds}
+use Rattle.operations.specs.Outcomes.{UnifyNeeds, JoinNeeds, ProjectionNeeds, ChangeNeeds}
+use Rattle.operations.proofs.Demand2.{convert-outcome, equation-outcome, unify-outcome, join-outcome, projection-outcome}
+use Rattle.operations.proofs.Demand2.{change-outcome}
 use Rattle.operations.proofs.Exclusive.{Conditions, single, test, and-then, as-said, table-conditions, term-conditions}
-use Rattle.operations.proofs.Exclusive.{convert-conditions}
+use Rattle.operations.proofs.Exclusive.{sides-conditions, convert-conditions}
 use Rattle.forms.specs.declared.Layout.{Layout}
 use Rattle.forms.specs.declared.Layout.the-variants.{Plain, Packed}
 use Rattle.forms.specs.declared.Extent.the-variants.{Whole}
@@ -37,13 +37,14 @@ use Rattle.forms.specs.TableForms.{read-sized, read-form, Passed}
 use Rattle.forms.proofs.Reading.{entries-grow, read-good, read-groups}
 use Rattle.forms.proofs.Tests.{passed-reads}
 use Rattle.forms.proofs.Numbers.{read-numbers}
-use Rattle.byte_calls.specs.ByteCalls.{check-bytes, tokens-of, term-call, refuses-zero, after-read, change-side-bytes}
-use Rattle.byte_calls.specs.ByteCalls.{equation-bytes, join-bytes, projection-bytes}
-use Rattle.byte_calls.proofs.AfterChecks.{term-passed, term-bytes-refused, term-bytes-numbers}
+use Rattle.byte_calls.specs.ByteCalls.{tokens-of, term-call, terms-call, written-tokens, value-call, refuses-zero}
+use Rattle.byte_calls.specs.ByteCalls.{after-read, change-side-bytes, equation-bytes, unify-bytes, written-bytes}
+use Rattle.byte_calls.specs.ByteCalls.{join-bytes, projection-bytes}
+use Rattle.byte_calls.proofs.AfterChecks.{check-all-bytes, bytes-numbers, bytes-passed, bytes-refused}
 use Rattle.demands.specs.Demand2.{Reads, Unread, Fails, entries-well, right-length, FormEarly, AfterRead}
-use Rattle.demands.specs.Demand2.{ReadAnd, TermEarly, TermReady, SecondEarly, SecondReady, FormExported, ReadExported}
-use Rattle.demands.specs.Demand2.{PackExported, UnpackExported}
-use Rattle.demands.specs.Demand2.{ConvertExported, ChangeExported, EquationExported, ProjectionExported, JoinExported}
+use Rattle.demands.specs.Demand2.{ReadAnd, SecondEarly, SecondReady, FormExported, ReadExported, PackExported}
+use Rattle.demands.specs.Demand2.{UnpackExported, ConvertExported, ChangeExported, EquationExported, UnifyExported}
+use Rattle.demands.specs.Demand2.{ProjectionExported, JoinExported}
 use Rattle.demands.proofs.ByBytes.{call-by-bytes, call-unread}
 use Rattle.demands.proofs.ReadsBack.{read-made, convert-made, change-side-made, equation-made, join-made}
 use Rattle.demands.proofs.ReadsBack.{projection-made}
@@ -251,60 +252,77 @@ module _ (side : Side) (b out : List ℕ) where
 
 -- ---- Equation
 
--- the checks of a term as bytes
-bytes-conditions : {ns : List ℕ} (term : List ℕ) → T (within (7 ∷ 1 ∷ []) ns)
-    → Conditions ns (λ r. check-bytes term ≡ Refused r) (check-bytes term ≡ Accepted)
-bytes-conditions {ns} term w = record {
+-- the checks of an equation's bytes
+bytes-conditions : {ns : List ℕ} (w : Written) → T (within (7 ∷ 1 ∷ []) ns)
+    → Conditions ns (λ r. check-all-bytes w ≡ Refused r) (check-all-bytes w ≡ Accepted)
+bytes-conditions {ns} w few = record {
   apart = λ r e h. absurd (let z : _≡_ {A = ℕ} 0 1 = cc in omega arith);
   one = λ r s e h. cc;
-  numbers = λ r e. one-of-more (7 ∷ 1 ∷ []) ns r w (term-bytes-numbers term r e);
+  numbers = λ r e. one-of-more (7 ∷ 1 ∷ []) ns r few (bytes-numbers w r e);
 }
 
-module _ (side : Side) (x : ℕ) (term : List ℕ) where
-  -- the result of an equation with the term u on t
-  abbrev EquationResult : (t : Table) → TermReady x term t → Table → Type 0
-  EquationResult t p = Becomes side (t .l) (After (record { left = x; right = p .right }) (groups-of side t))
-
-  term-outcome : (t : Table) → TableValue t → check-table t ≡ Accepted
-      → Outcome t (TermEarly x term t) (TermReady x term t) (λ p. EquationNeeds side t x (p .right)) (EquationResult t)
-      (term-call side t x term)
-  term-outcome t value passes = go (check-bytes term) refl
+-- a call with its terms as bytes goes on to their tokens only where the bytes pass
+module _ {t : Table} {E : Refusal → Type 0} {P : Type 0} {F : P → Type 0} {S : P → Table → Type 0} where
+  bytes-first : (side : Side) (w : Written) → check-table t ≡ Accepted
+      → ((r : Refusal) → check-all-bytes w ≡ Refused r → E r)
+      → (check-all-bytes w ≡ Accepted → Outcome t E P F S (written-call side t (written-tokens w)))
+      → Outcome t E P F S (value-call side t w)
+  bytes-first side w passes f g = go (check-all-bytes w) refl
     where
-      TermOutcome : Answered → Type 0
-      TermOutcome =
-          Outcome t (TermEarly x term t) (TermReady x term t) (λ p. EquationNeeds side t x (p .right)) (EquationResult t)
+      go : (y : Answer) → check-all-bytes w ≡ y → Outcome t E P F S (value-call side t w)
+      go (Refused r) e = subst (Outcome t E P F S) (bytes-refused side t w passes e) (early (f r e))
+      go Accepted e = subst (Outcome t E P F S) (sym (bytes-passed side t w e)) (g e)
 
-      go : (w : Answer) → check-bytes term ≡ w → TermOutcome (term-call side t x term)
-      go (Refused r) e = subst TermOutcome (term-bytes-refused side t x term passes e) (early (inl e))
-      go Accepted e =
-          subst TermOutcome (sym (term-passed side t x term e))
-          (outcome-as (λ r. ⊎-elim (λ k. unrefused t passes k) (λ k. inr (e, k .1))) (λ p. record { passes = e; right = p .term; reads = p .reads })
-          (λ p. (λ k. k, λ k. k)) (λ p u k. k) (equation-outcome side t x (tokens-of term) value))
+-- what was read on a table is the only thing
+needs-same : {X : Type 0} (check : ℕ → C.Outcome X) (Needs : Table → X → Type 0) {t u : Table} {a c : X} → t ≡ u
+    → check (t .l) ≡ C.reads a → check (u .l) ≡ C.reads c → Needs t a → Needs u c
+needs-same check Needs {t} {u} {a} {c} one here there f =
+    let also = subst (λ (v : Table). check (v .l) ≡ C.reads a) one here in
+    let is : a ≡ c = cc in
+    subst (Needs u) is (subst (λ (v : Table). Needs v a) one f)
 
-  module _ (b : List ℕ) where
-    -- the table and the term that were read are the only ones
-    needs-same : (p q : ReadAnd b (TermReady x term)) → EquationNeeds side (p .table) x (p .ready .right)
-        → EquationNeeds side (q .table) x (q .ready .right)
-    needs-same p q f =
-        let one = read-one b (p .reads) (q .reads) in
-        let u = p .ready .right in
-        let here = subst (λ (t : Table). C.check-equation (t .l) x (tokens-of term) ≡ C.reads u) one (p .ready .reads) in
-        let there = q .ready .reads in
-        let is : u ≡ q .ready .right = cc in
-        subst (λ (v : Term). EquationNeeds side (q .table) x v) is (subst (λ (t : Table). EquationNeeds side t x u) one f)
+-- `sharing_equation`.
+pub equation-exported : (side : Side) (x : ℕ) (term b out : List ℕ) → EquationExported side b x term out
+unfolding one-of member within check-all-bytes written-bytes equation-bytes value-call written-call written-tokens
+equation-exported side x term b out =
+    exported Plain (1 ∷ 2 ∷ 3 ∷ 4 ∷ 7 ∷ 5 ∷ 6 ∷ [])
+    (read-conditions b tt (λ t e.
+    as-said (and-then (bytes-conditions (one-term x term) tt) (term-conditions (t .l) x (tokens-of term) tt)) (λ r k. k)
+    (λ p. (p .passes, (p .right, p .reads)))))
+    refl refl
+    (λ p q.
+    needs-same (λ l. C.check-equation l x (tokens-of term)) (λ t u. EquationNeeds side t x u)
+    (read-one b (p .reads) (q .reads)) (p .ready .reads) (q .ready .reads))
+    (read-outcome b (λ t. term-call side t x term) (λ t e. (
+      t,
+      bytes-first side (one-term x term) (read-passes b e) (λ r k. inl k) (λ k.
+          outcome-as (λ r. ⊎-elim (λ h. unrefused t (read-passes b e) h) (λ h. inr (k, h .1)))
+          (λ p. record { passes = k; right = p .term; reads = p .reads }) (λ p. (λ h. h, λ h. h)) (λ p u h. h)
+          (equation-outcome side t x (tokens-of term) (read-value b e))),
+    )) .1)
+    (equation-made side b (one-term x term)) out
 
-    -- `sharing_equation`.
-    pub equation-exported : (out : List ℕ) → EquationExported side b x term out
-    unfolding one-of member within equation-bytes
-    equation-exported out =
-        exported Plain (1 ∷ 2 ∷ 3 ∷ 4 ∷ 7 ∷ 5 ∷ 6 ∷ [])
-        (read-conditions b tt (λ t e.
-        as-said (and-then (bytes-conditions term tt) (term-conditions (t .l) x (tokens-of term) tt)) (λ r k. k)
-        (λ p. (p .passes, (p .right, p .reads)))))
-        refl refl needs-same
-        (read-outcome b (λ t. term-call side t x term)
-        (λ t e. (t, term-outcome t (read-value b e) (read-passes b e))) .1)
-        (equation-made side b x term) out
+-- `sharing_unify`.
+pub unify-exported : (side : Side) (left right b out : List ℕ) → UnifyExported side b left right out
+unfolding one-of member within check-all-bytes written-bytes unify-bytes value-call written-call written-tokens
+unify-exported side left right b out =
+    exported Plain (1 ∷ 2 ∷ 3 ∷ 4 ∷ 7 ∷ 5 ∷ 6 ∷ [])
+    (read-conditions b tt (λ t e.
+    as-said
+    (and-then (bytes-conditions (two-terms left right) tt) (sides-conditions (t .l) (tokens-of left) (tokens-of right) tt))
+    (λ r k. k) (λ p. (p .passes, (p .sides, p .reads)))))
+    refl refl
+    (λ p q.
+    needs-same (λ l. C.check-sides l (tokens-of left) (tokens-of right)) (UnifyNeeds side)
+    (read-one b (p .reads) (q .reads)) (p .ready .reads) (q .ready .reads))
+    (read-outcome b (λ t. terms-call side t left right) (λ t e. (
+      t,
+      bytes-first side (two-terms left right) (read-passes b e) (λ r k. inl k) (λ k.
+          outcome-as (λ r. ⊎-elim (λ h. unrefused t (read-passes b e) h) (λ h. inr (k, h .1)))
+          (λ p. record { passes = k; sides = p .sides; reads = p .reads }) (λ p. (λ h. h, λ h. h)) (λ p u h. h)
+          (unify-outcome side t (tokens-of left) (tokens-of right) (read-value b e))),
+    )) .1)
+    (equation-made side b (two-terms left right)) out
 
 -- ---- Projection
 

@@ -7,18 +7,19 @@ use mathlib.Core.Logic.{inl, inr}
 use mathlib.Core.Option.{some}
 use Prim.Native.Nat.{ℕ}
 use Rattle.model.specs.Groups.{Bits, Among}
-use Rattle.model.specs.Growth.{Entries, Reduced}
+use Rattle.model.specs.Growth.{Entries}
 use Rattle.model.specs.Terms.{var, apply, apply-row}
 use Rattle.model.specs.Tables.{positive, Good}
 use Rattle.model.specs.Questions.{every, every-group, stands-for, ground, independent}
-use Rattle.model.specs.Equations.{equation}
+use Rattle.model.specs.Walk.{Sides}
+use Rattle.model.specs.Unification.{unification}
 use Rattle.model.specs.Bindings.{Bindings, bound, as-bound, apply-all, Describes}
 use Rattle.model.specs.Goals.{Occurs, ShareNone, NoVariable}
 use Rattle.model.specs.Calls.{Event, accepted, Reaches}
-use Rattle.model.specs.Marked.{equate, f-of, a-constant, table-c, table-d, table-e}
+use Rattle.model.specs.Marked.{f-of, a-constant, table-c, table-d, table-e}
 use Rattle.model.proofs.Computing.{procedures}
-use Rattle.model.proofs.Demand2.{convert-good, equation-good}
-use Rattle.model.proofs.Demand3.{describes-more}
+use Rattle.model.proofs.Demand2.{convert-good}
+use Rattle.model.proofs.Demand3.{describes-more, with-variable, equation-reaches}
 use Rattle.model.proofs.Example.{gives, gives-admitted, start, start-table, start-good, start-described}
 use Rattle.words.specs.Words.{set}
 use Rattle.tables.specs.declared.Answer.{Answer}
@@ -26,8 +27,9 @@ use Rattle.tables.specs.Refusals.{if-accepted}
 use Rattle.tables.specs.Values.{check-table, table-of, accepts, made-or-full, good-width}
 use Rattle.tables.proofs.Values.{entries-of-table}
 use Rattle.tables.proofs.Checking.{good-passes}
+use Rattle.terms.specs.Checks.{Written, one-term}
 use Rattle.terms.specs.Checks as C
-use Rattle.lists.specs.WorkingLists.{all-below}
+use Rattle.conversion.specs.Conversion.{all-below}
 use Rattle.operations.specs.Operations.{convert-call}
 use Rattle.operations.specs.Outcomes.{groups-of}
 use Rattle.questions.specs.declared.Reply.{Reply}
@@ -36,7 +38,7 @@ use Rattle.questions.specs.Replies.{replies, good-sets, ground-call, independen
 use Rattle.demands.specs.Demand3.{Calls, end}
 use Rattle.words.proofs.Codec.{sets-long}
 use Rattle.demands.proofs.Demand3.{calls-described}
-use Rattle.demands.proofs.OnEntries.{term-checks, value-good, value-groups, call-accepted}
+use Rattle.demands.proofs.OnEntries.{term-checks, walking, value-good, value-groups, made-good, call-accepted}
 use Rattle.demands.proofs.Example.{three, three-wide}
 use Rattle.demands.proofs.Goals.{convert-describes, independent-goals, ground-goal}
 
@@ -72,50 +74,56 @@ first-described =
     (convert-describes 3 (1 ∷ 2 ∷ 4 ∷ []) (three start-table) start start-converts .1
     (rw (value-groups positive three-wide start-good) start-described)))
 
-c-good : Good 3 table-c × Reduced table-c
+c-good : Good 3 table-c
 unfolding procedures set
-c-good = convert-good 3 (map (set 3) row) table-c (sets-long 3 row) refl
+c-good = convert-good 3 (map (set 3) row) table-c (sets-long 3 row) refl .0
 
 -- ---- The equations
 
--- the tokens of f(X2), and of a
-abbrev f-tokens : List ℕ
-f-tokens = 32785 ∷ 2 ∷ []
+-- X1 = f(X2) and X3 = a, as they are written and as two sides
+abbrev f-written : Written
+f-written = one-term 1 (32785 ∷ 2 ∷ [])
 
-abbrev a-tokens : List ℕ
-a-tokens = 32800 ∷ []
+abbrev a-written : Written
+a-written = one-term 3 (32800 ∷ [])
 
-f-reads : C.check-equation 3 1 f-tokens ≡ C.reads (f-of 2)
+abbrev f-sides : Sides
+f-sides = with-variable 1 (f-of 2)
+
+abbrev a-sides : Sides
+a-sides = with-variable 3 a-constant
+
+f-reads : C.check-written 3 f-written ≡ C.reads f-sides
 unfolding term-checks
 f-reads = refl
 
-a-reads : C.check-equation 3 3 a-tokens ≡ C.reads a-constant
+a-reads : C.check-written 3 a-written ≡ C.reads a-sides
 unfolding term-checks
 a-reads = refl
 
-f-makes : equation positive 3 (equate 1 (f-of 2)) table-c ≡ some table-d
-unfolding procedures
+f-makes : unification positive 3 f-sides table-c ≡ some table-d
+unfolding walking
 f-makes = refl
 
-a-makes : equation positive 3 (equate 3 a-constant) table-d ≡ some table-e
-unfolding procedures
+a-makes : unification positive 3 a-sides table-d ≡ some table-e
+unfolding walking
 a-makes = refl
 
-d-good : Good 3 table-d × Reduced table-d
-d-good = equation-good positive 3 (equate 1 (f-of 2)) table-c table-d (c-good .0) f-makes
+d-good : Good 3 table-d
+d-good = made-good positive three-wide c-good f-sides f-makes
 
-e-good : Good 3 table-e × Reduced table-e
-e-good = equation-good positive 3 (equate 3 a-constant) table-d table-e (d-good .0) a-makes
+e-good : Good 3 table-e
+e-good = made-good positive three-wide d-good a-sides a-makes
 
 -- X1 = f(X2), then X3 = a, both accepted.
 abbrev pub both : List Event
-both = accepted (equate 1 (f-of 2)) ∷ accepted (equate 3 a-constant) ∷ []
+both = accepted f-sides ∷ accepted a-sides ∷ []
 
 -- The calls from the table of row c to that of row e.
 pub both-called : Calls positive (three table-c) both (three table-e)
 both-called =
-    call-accepted positive three-wide (c-good .0) 1 f-makes f-tokens f-reads
-    (call-accepted positive three-wide (d-good .0) 3 a-makes a-tokens a-reads end)
+    call-accepted positive three-wide c-good f-written f-makes f-reads
+    (call-accepted positive three-wide d-good a-written a-makes a-reads end)
 
 -- The bindings after both: X1 is f of X2's run-time variable, and X3 is a.
 abbrev pub last : Bindings
@@ -125,12 +133,17 @@ last = f-of 2 ∷ var 2 ∷ a-constant ∷ []
 pub last-reached : Reaches start both last
 unfolding bound as-bound apply apply-row apply-all Reaches
 last-reached =
-    (gives 1 (f-of 2), gives-admitted 1 (f-of 2) refl refl, (gives 3 a-constant, gives-admitted 3 a-constant refl refl, refl))
+    equation-reaches start last 1 (f-of 2) (accepted a-sides ∷ []) .1 (
+      gives 1 (f-of 2),
+      gives-admitted 1 (f-of 2) refl refl,
+      equation-reaches (f-of 2 ∷ var 2 ∷ var 3 ∷ []) last 3 a-constant [] .1
+          (gives 3 a-constant, gives-admitted 3 a-constant refl refl, refl),
+    )
 
 -- The last table describes them.
 pub last-described : Describes (groups-of positive (three table-e)) last
 last-described =
-    calls-described positive both-called (value-good positive three-wide (c-good .0)) start last first-described last-reached .1
+    calls-described positive both-called (value-good positive three-wide c-good) start last first-described last-reached .1
 
 -- ---- The questions
 
@@ -138,14 +151,14 @@ last-described =
 asked : (q : Reply) → if-accepted (check-table (three table-e)) Refused q ≡ q
 unfolding if-accepted
 asked q =
-    ap (λ (a : Answer). if-accepted a Refused q) (good-passes (three table-e) (value-good positive three-wide (e-good .0)))
+    ap (λ (a : Answer). if-accepted a Refused q) (good-passes (three table-e) (value-good positive three-wide e-good))
 
 -- X1 and X3 are independent.
 pub apart : independent-call positive (three table-e) 1 4 ≡ Yes
 unfolding procedures every every-group stands-for independent independent-call if-accepted good-sets replies set table-of
 apart =
     asked _
-    ∙ ap (λ (τ : Entries). replies (independent positive 3 τ (set 3 1) (set 3 4))) (entries-of-table 3 table-e (e-good .0))
+    ∙ ap (λ (τ : Entries). replies (independent positive 3 τ (set 3 1) (set 3 4))) (entries-of-table 3 table-e e-good)
 
 -- So goals on them share no run-time variable.
 pub goals : ShareNone last (set 3 1) (set 3 4)
@@ -157,7 +170,7 @@ pub third-ground : ground-call positive (three table-e) 3 ≡ Yes
 unfolding procedures every every-group stands-for ground ground-call if-accepted replies table-of
 third-ground =
     asked _
-    ∙ ap (λ (τ : Entries). replies (ground positive 3 τ 3)) (entries-of-table 3 table-e (e-good .0))
+    ∙ ap (λ (τ : Entries). replies (ground positive 3 τ 3)) (entries-of-table 3 table-e e-good)
 
 -- So its term has no run-time variable.
 pub third-goal : NoVariable last 3
@@ -168,7 +181,7 @@ pub not-apart : independent-call positive (three table-e) 1 2 ≡ No
 unfolding procedures every every-group stands-for independent independent-call if-accepted good-sets replies set table-of
 not-apart =
     asked _
-    ∙ ap (λ (τ : Entries). replies (independent positive 3 τ (set 3 1) (set 3 2))) (entries-of-table 3 table-e (e-good .0))
+    ∙ ap (λ (τ : Entries). replies (independent positive 3 τ (set 3 1) (set 3 2))) (entries-of-table 3 table-e e-good)
 
 -- And goals on them do share one: X2's run-time variable is in both terms.
 pub shared : Occurs last (set 3 1) 2 × Occurs last (set 3 2) 2

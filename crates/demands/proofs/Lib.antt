@@ -2,6 +2,7 @@ pub mod Equations
 pub mod ByBytes
 pub mod ReadsBack
 pub mod HandedBack
+pub mod Found
 pub mod Demand2
 pub mod Questions
 pub mod Demand3

@@ -10,11 +10,12 @@ use Rattle.model.specs.Tables.{positive, negative, opposite, groups, change-sid
 use Rattle.model.specs.Questions.{Equal}
 use Rattle.model.specs.Bindings.{Describes}
 use Rattle.model.proofs.Computing.{procedures}
-use Rattle.model.proofs.Demand2.{change-exact, change-good}
+use Rattle.model.proofs.Demand2.{change-exact, change-good, change-reduced}
 use Rattle.model.proofs.Demand3.{describes-more}
 use Rattle.model.proofs.Example.{start, start-table, start-described, end, end-table}
 use Rattle.tables.specs.Values.{GoodTable}
 use Rattle.operations.specs.Outcomes.{groups-of}
+use Rattle.demands.proofs.OnEntries.{walking}
 use Rattle.demands.proofs.Example.{three, Tables, calls-end}
 
 -- The negative table 11* 1*1 *11.
@@ -51,13 +52,14 @@ end-groups = change-exact negative 3 negative-end end-table end-changed
 
 -- The tables of the negative side.
 pub negative-tables : Tables negative negative-start negative-middle negative-end
-unfolding procedures
+unfolding walking
 negative-tables = record {
   good = change-good positive 3 start-table negative-start start-changed;
+  reduced = change-reduced positive 3 start-table negative-start start-changed (omega arith);
   described = describes-more (groups positive 3 start-table) (groups negative 3 negative-start) start
       (λ g. start-groups g .1) start-described;
   first-makes = refl;
-  second-makes = refl;
+  together-makes = refl;
   few = omega arith;
 }
 

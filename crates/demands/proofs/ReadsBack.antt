@@ -4,10 +4,10 @@ use mathlib.Core.Path.{_≡_, refl, sym, ap, subst, _∙_}
 use mathlib.Core.Bool.{Bool, true, false, cond}
 use mathlib.Core.List.{List, _++_, map}
 use mathlib.Core.Option.{Option, some, none}
-use Prim.Native.Nat.{ℕ, _<_}
+use Prim.Native.Nat.{ℕ}
 use native.Mathlib.Omega.{arith}
-use borrow.Author.Tests.{ltb-true, eqb-true}
-use lib.Dec.{ltb, leb, eqb}
+use borrow.Author.Tests.{eqb-true}
+use lib.Dec.{eqb}
 use lib.ListN.{length, take, drop}
 use lib.Seq.{take-at}
 use Rattle.model.specs.Growth.{Entries, convert, Reduced}
@@ -23,11 +23,11 @@ use Rattle.tables.specs.declared.Answered.{Answered}
 use Rattle.tables.specs.Refusals.{if-accepted}
 use Rattle.tables.specs.Values.{entries-of, accepts, refuses, made-or-full, good-width, check-table, GoodTable}
 use Rattle.tables.specs.Values.{zero-table}
-use Rattle.lists.specs.WorkingLists.{all-below}
-use Rattle.operations.specs.Operations.{convert-call}
+use Rattle.conversion.specs.Conversion.{all-below}
 use Rattle.tables.proofs.Values.{entries-of-table, table-of-good}
-use Rattle.tables.proofs.Tests.{both-true}
-use Rattle.operations.specs.Operations.{good-keep, projected, join-call, projection-call, change-side-call}
+use Rattle.terms.specs.Checks.{Written}
+use Rattle.operations.specs.Operations.{convert-call, written-call, good-keep, projected, join-call, projection-call}
+use Rattle.operations.specs.Operations.{change-side-call}
 use Rattle.operations.proofs.Demand2.{kept-width}
 use Rattle.forms.specs.declared.Extent.the-variants.{Whole, Front}
 use Rattle.forms.specs.declared.Layout.{Layout}
@@ -36,12 +36,12 @@ use Rattle.forms.specs.TableForms.{form-length, read-form, read-table, form-of,
 use Rattle.forms.proofs.Reading.{read-good}
 use Rattle.forms.proofs.Outcomes.{form-long}
 use Rattle.forms.proofs.ReadsBack.{written-reads, written-front}
-use Rattle.byte_calls.specs.ByteCalls.{tokens-of, term-call, refuses-zero, after-read, change-side-bytes, equation-bytes}
-use Rattle.byte_calls.specs.ByteCalls.{join-bytes, projection-bytes}
+use Rattle.byte_calls.specs.ByteCalls.{written-tokens, value-call, refuses-zero, after-read, change-side-bytes}
+use Rattle.byte_calls.specs.ByteCalls.{written-bytes, join-bytes, projection-bytes}
 use Rattle.byte_calls.specs.Outputs.{output-answer-as, output-bytes-as, output-answer, output-bytes}
-use Rattle.demands.proofs.Equations.{accepted-exact}
 use Rattle.demands.specs.Demand2.{Reads}
-use Rattle.demands.proofs.ByBytes.{term-accepted}
+use Rattle.demands.proofs.Equations.{width-some, Made, accepted-exact}
+use Rattle.demands.proofs.ByBytes.{one-reading, bytes-accepted}
 
 -- ---- Any answer
 
@@ -120,11 +120,6 @@ read-makes b go f = by (read-table Whole b) refl
         part Accepted h = f (a .table) (e ∙ (λ i. record { answer = h i; table = a .table }))
         part (Refused r) h = refused-good r zero-table
 
--- l is not 0
-width-some : (l : ℕ) → good-width l ≡ true → 0 < l
-unfolding good-width
-width-some l w = ltb-true 0 l (both-true (ltb 0 l) (leb l 16) w .0)
-
 -- ---- Read
 
 module _ (b : List ℕ) where
@@ -179,23 +174,39 @@ module _ (side : Side) (b : List ℕ) where
 
 -- ---- Equation
 
--- An accepted equation on a good table, with its term as bytes, makes a good and reduced table.
-pub term-made : (side : Side) (t : Table) (x : ℕ) (term : List ℕ) → GoodTable t → MakesGood (term-call side t x term)
-term-made side t x term good e =
-    let same = term-accepted side t x term good e in
-    let m = accepted-exact side t x (tokens-of term) good (ap (λ (y : Answered). y .answer) (sym same) ∙ e) in
-    subst (λ (y : Answered). GoodTable (y .table) × Reduced (entries-of (y .table))) (sym same) (m .is-good, m .reduced)
+module _ (side : Side) (t : Table) (w : Written) (good : GoodTable t) (went : value-call side t w .answer ≡ Accepted) where
+  -- the equation on the tokens, which is the same
+  abbrev same : value-call side t w ≡ written-call side t (written-tokens w)
+  same = bytes-accepted side t w good went
 
-module _ (side : Side) (b : List ℕ) (x : ℕ) (term : List ℕ) where
+  on-tokens : Made side t (written-tokens w) good
+  on-tokens = accepted-exact side t (written-tokens w) good (ap (λ (y : Answered). y .answer) (sym same) ∙ went)
+
+  -- An accepted equation, x = t or two terms, on a good table, with its terms as bytes, makes a good table,
+  pub made-good : GoodTable (value-call side t w .table)
+  made-good = subst (λ (y : Answered). GoodTable (y .table)) (sym same) (on-tokens .is-good)
+
+  -- and a reduced one where the table was.
+  pub made-reduced : Reduced (entries-of t) → Reduced (entries-of (value-call side t w .table))
+  made-reduced r = subst (λ (y : Answered). Reduced (entries-of (y .table))) (sym same) (on-tokens .reduced r)
+
+-- So on a table that is good and reduced:
+pub value-made : (side : Side) (t : Table) (w : Written) → GoodTable t → Reduced (entries-of t)
+    → MakesGood (value-call side t w)
+value-made side t w good reduced e = (made-good side t w good e, made-reduced side t w good e reduced)
+
+module _ (side : Side) (b : List ℕ) (w : Written) where
   -- of an accepted equation,
-  pub equation-made : MakesGood (equation-bytes side b x term)
-  unfolding equation-bytes
-  equation-made = read-makes b (λ t. term-call side t x term) (λ t e. term-made side t x term (read-good Plain Whole b t e .0))
+  pub equation-made : MakesGood (written-bytes side b w)
+  equation-made =
+      subst MakesGood (sym (one-reading side b w))
+      (read-makes b (λ t. value-call side t w) (λ t e.
+      let g = read-good Plain Whole b t e in value-made side t w (g .0) (g .1)))
 
   -- What an accepted equation has written reads as its table.
-  pub equation-reads : (out : List ℕ) → output-answer (equation-bytes side b x term) out ≡ Accepted
-      → read-table Front (output-bytes (equation-bytes side b x term) out) ≡ accepts (equation-bytes side b x term .table)
-  equation-reads = made-reads (equation-bytes side b x term) equation-made
+  pub equation-reads : (out : List ℕ) → output-answer (written-bytes side b w) out ≡ Accepted
+      → read-table Front (output-bytes (written-bytes side b w) out) ≡ accepts (written-bytes side b w .table)
+  equation-reads = made-reads (written-bytes side b w) equation-made
 
 -- ---- Join
 

@@ -14,6 +14,8 @@ use Rattle.model.specs.Tables.{Side, positive, opposite, groups, kept}
 use Rattle.model.specs.Tokens.{named}
 use Rattle.model.specs.Questions.{Equal, Ground, Independent}
 use Rattle.model.specs.Equations.{After}
+use Rattle.model.specs.Walk.{Sides}
+use Rattle.model.specs.Unification.{AfterSides}
 use Rattle.words.specs.Words.{set}
 use Rattle.tables.specs.declared.Table.{Table}
 use Rattle.tables.specs.declared.Refusal.{Refusal}
@@ -25,7 +27,7 @@ use Rattle.tables.specs.Values.{zero-table, accepts, refuses, good-width, GoodT
 use Rattle.terms.specs.Checks as C
 use Rattle.operations.specs.Operations.{good-keep, convert-call}
 use Rattle.operations.specs.Outcomes.{groups-of, Becomes, ConvertEarly, ConvertReady, ConvertNeeds, EquationNeeds, JoinNeeds}
-use Rattle.operations.specs.Outcomes.{ProjectionNeeds, ChangeNeeds}
+use Rattle.operations.specs.Outcomes.{UnifyNeeds, ProjectionNeeds, ChangeNeeds}
 use Rattle.questions.specs.declared.Reply.{Reply}
 use Rattle.questions.specs.Replies.{reply-number, reply-word, good-sets}
 use Rattle.forms.specs.declared.Extent.the-variants.{Whole, Front}
@@ -34,7 +36,8 @@ use Rattle.forms.specs.declared.Layout.the-variants.{Plain, Packed}
 use Rattle.forms.specs.TableForms.{sized, first-size, second-size, form-length, fits, written-entries, all-well, bad-entry}
 use Rattle.forms.specs.TableForms.{form-numbers, read-form, read-table, Passed, form-of}
 use Rattle.byte_calls.specs.ByteCalls.{check-bytes, tokens-of, change-side-bytes, equation-bytes, join-bytes}
-use Rattle.byte_calls.specs.ByteCalls.{projection-bytes, equal-bytes, ground-bytes, independent-bytes}
+use Rattle.byte_calls.specs.ByteCalls.{check-both-bytes, unify-bytes, projection-bytes, equal-bytes, ground-bytes}
+use Rattle.byte_calls.specs.ByteCalls.{independent-bytes}
 use Rattle.byte_calls.specs.Outputs.{output-number-as, output-bytes-as}
 
 -- ---- What is handed back
@@ -175,6 +178,27 @@ EquationExported side b x term out =
     (λ q. EquationNeeds side (q .table) x (q .ready .right))
     (λ q. Becomes side (q .table .l) (After (record { left = x; right = q .ready .right }) (groups-of side (q .table))))
     (equation-bytes side b x term) out
+
+-- The refusals of two terms as bytes: 7, 1, 1; then 5, 6 of the left, 5, 6 of the right.
+abbrev pub TermsEarly : List ℕ → List ℕ → Table → Refusal → Type 0
+TermsEarly left right t r =
+    (check-both-bytes left right ≡ Refused r)
+    ⊎ ((check-both-bytes left right ≡ Accepted) × (C.check-sides (t .l) (tokens-of left) (tokens-of right) ≡ C.refuses r))
+
+-- The bytes are the tokens of two whole terms.
+pub record TermsReady (left right : List ℕ) (t : Table) : Type 0 where
+  pub passes : check-both-bytes left right ≡ Accepted
+  pub sides : Sides
+  pub reads : C.check-sides (t .l) (tokens-of left) (tokens-of right) ≡ C.reads sides
+
+-- `sharing_unify`: the groups after the found equations in order, by the binary definition; none after a clash, which is never
+-- full.
+abbrev pub UnifyExported : Side → List ℕ → List ℕ → List ℕ → List ℕ → Type 0
+UnifyExported side b left right out =
+    Exported (1 ∷ 2 ∷ 3 ∷ 4 ∷ 7 ∷ 5 ∷ 6 ∷ []) (AfterRead b (TermsEarly left right)) (ReadAnd b (TermsReady left right))
+    (λ q. UnifyNeeds side (q .table) (q .ready .sides))
+    (λ q. Becomes side (q .table .l) (AfterSides (q .ready .sides) (groups-of side (q .table))))
+    (unify-bytes side b left right) out
 
 -- `sharing_project`: the projected groups; 11 for a set with no variable or one above l.
 abbrev pub ProjectionExported : Side → List ℕ → ℕ → List ℕ → Type 0

@@ -1,7 +1,7 @@
 -- Forms that are cut short or followed by more bytes. Assumes nothing.
-use mathlib.Core.Path.{_≡_, refl, sym, _∙_}
+use mathlib.Core.Path.{_≡_, refl}
 use mathlib.Core.Bool.{Bool, true, false, cond}
-use mathlib.Core.List.{List, [], _∷_, _++_}
+use mathlib.Core.List.{List, _∷_, _++_}
 use Prim.Native.Nat.{ℕ, _+_, _*_, _≤_, _<_}
 use native.Mathlib.Omega.{arith}
 use borrow.Author.Tests.{leb-true, eqb-true, lt-leb, le-leb, ne-eqb}
@@ -9,47 +9,42 @@ use lib.ListN.{length, getD, take, length-append, length-take, List·getD-append
 use lib.Seq.{getD-take}
 use Rattle.tables.specs.declared.Table.{Table}
 use Rattle.tables.specs.declared.Refusal.the-variants as R
-use Rattle.tables.specs.declared.Answer.the-variants.{Accepted, Refused}
 use Rattle.tables.specs.Values.{zero-table, accepts, refuses}
-use Rattle.terms.specs.Checks.{most-tokens}
-use Rattle.codec.specs.Numbers.{numbers, sum}
 use Rattle.forms.specs.declared.Extent.{Extent}
 use Rattle.forms.specs.declared.Extent.the-variants.{Whole, Front}
 use Rattle.forms.specs.declared.Layout.{Layout}
 use Rattle.forms.specs.declared.Layout.the-variants.{Plain, Packed}
 use Rattle.forms.specs.TableForms.{sized, first-size, second-size, form-length, fits}
 use Rattle.forms.specs.TableForms.{written-entries, all-well, read-entries, read-sized, read-form}
-use Rattle.forms.specs.EquationForms.{most-equations, equations-length, equations-of, check-sized}
-use Rattle.forms.specs.EquationForms.{share-out, check-each, check-equations}
 use Rattle.forms.specs.TableForms.{Passed}
 use Rattle.packing.specs.Packing.{row-length}
 use Rattle.forms.proofs.Rows.{numbers-within}
 use Rattle.forms.proofs.PackedRows.{rows-within}
-use Rattle.forms.proofs.Tests.{grown-table, reads-passed, equations-passed}
+use Rattle.forms.proofs.Tests.{grown-table, reads-passed}
 
 -- ---- The sizes at the front
 
 -- the sizes are the same
-abbrev Sizes : List ℕ → List ℕ → Type 0
+abbrev pub Sizes : List ℕ → List ℕ → Type 0
 Sizes c b = (first-size c ≡ first-size b) × (second-size c ≡ second-size b)
 
 four-bytes : (c b : List ℕ) → ((i : ℕ) → i < 4 → getD c i 0 ≡ getD b i 0) → Sizes c b
 four-bytes c b f = (rw (f 0 (omega arith), f 1 (omega arith)), rw (f 2 (omega arith), f 3 (omega arith)))
 
-cut-sizes : (b : List ℕ) (k : ℕ) → sized (take k b) ≡ true → Sizes (take k b) b
+pub cut-sizes : (b : List ℕ) (k : ℕ) → sized (take k b) ≡ true → Sizes (take k b) b
 unfolding sized
 cut-sizes b k s =
     let h : 4 ≤ k = omega (arith, leb-true 4 (length (take k b)) s, length-take k b) in
     four-bytes (take k b) b (λ i lt. getD-take k b i 0 (omega arith))
 
-longer-sizes : (b c : List ℕ) → sized b ≡ true → Sizes (b ++ c) b
+pub longer-sizes : (b c : List ℕ) → sized b ≡ true → Sizes (b ++ c) b
 unfolding sized
 longer-sizes b c s =
     let h = leb-true 4 (length b) s in
     four-bytes (b ++ c) b (λ i lt. List·getD-append b c 0 i (omega arith))
 
 -- no sizes, or sizes by which it is torn
-torn-by : {A : Type 0} (s : Bool) (a torn : A) → (s ≡ true → a ≡ torn) → cond s a torn ≡ torn
+pub torn-by : {A : Type 0} (s : Bool) (a torn : A) → (s ≡ true → a ≡ torn) → cond s a torn ≡ torn
 torn-by true a torn f = f refl
 torn-by false a torn f = refl
 
@@ -125,37 +120,3 @@ table-followed f b t e c =
       p .0 .clean,
     )
     (p .1)
-
--- ---- Equations
-
--- the sizes of b, and another length
-equations-torn : (l : ℕ) (b c : List ℕ) → check-equations l b ≡ Accepted → (sized c ≡ true → Sizes c b)
-    → (length c ≡ length b → ⊥) → check-equations l c ≡ Refused R.Torn
-unfolding check-equations check-sized
-equations-torn l b c e same other =
-    let g = equations-passed l b e .sizes in
-    let bad = ne-eqb (length c) (equations-length (first-size b) (second-size b)) (λ q. other (q ∙ sym (g .long))) in
-    let few = le-leb (first-size b) most-equations (g .few) in
-    let short = le-leb (second-size b) most-tokens (g .short) in
-    torn-by (sized c) _ _ (λ s. rw (same s .0, same s .1, few, short, bad))
-
-equations-sized : (l : ℕ) (b : List ℕ) → check-equations l b ≡ Accepted → sized b ≡ true
-unfolding sized
-equations-sized l b e = le-leb 4 (length b) (omega (arith, equations-passed l b e .sizes .long))
-
--- Equations cut short anywhere are torn.
-pub equations-cut : (l : ℕ) (b : List ℕ) (k : ℕ) → check-equations l b ≡ Accepted → k < length b
-    → check-equations l (take k b) ≡ Refused R.Torn
-equations-cut l b k e h = equations-torn l b (take k b) e (cut-sizes b k) (λ q. omega (arith, length-take k b))
-
--- Equations with bytes after them are torn.
-pub equations-longer : (l : ℕ) (b : List ℕ) → check-equations l b ≡ Accepted → (y : ℕ) (c : List ℕ)
-    → check-equations l (b ++ (y ∷ c)) ≡ Refused R.Torn
-equations-longer l b e y c =
-    equations-torn l b (b ++ (y ∷ c)) e (λ s. longer-sizes b (y ∷ c) (equations-sized l b e))
-    (λ q. omega (arith, length-append b (y ∷ c)))
-
--- The form of no equations is accepted.
-pub no-equations : (l : ℕ) → check-equations l (0 ∷ 0 ∷ 0 ∷ 0 ∷ []) ≡ Accepted
-unfolding check-equations check-sized sized sum numbers equations-of share-out check-each
-no-equations l = refl

@@ -1,8 +1,6 @@
 pub mod Outcomes
 pub mod Rows
 pub mod PackedRows
-pub mod Cursors
-pub mod EachEquation
 pub mod Tests
 pub mod Reading
 pub mod Decoding

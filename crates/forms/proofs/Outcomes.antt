@@ -1,12 +1,11 @@
 -- What a form is answered, test by test, and the bytes that are written. Assumes nothing.
 use mathlib.Core.Path.{_≡_, refl, sym, ap, _∙_}
-use mathlib.Core.Bool.{true, false, _&&_}
+use mathlib.Core.Bool.{true, false}
 use mathlib.Core.List.{List, [], _∷_, _++_}
-use Prim.Native.Nat.{ℕ, _+_, _-_, _*_, _≤_, _<_}
+use Prim.Native.Nat.{ℕ, _+_, _*_, _≤_, _<_}
 use native.Mathlib.Nat.{zero-add}
 use native.Mathlib.Omega.{arith}
-use borrow.Author.Tests.{le-leb, lt-leb, eq-eqb, ne-eqb, eqb-true, leb-true}
-use lib.Dec.{leb}
+use borrow.Author.Tests.{le-leb, lt-leb, eqb-true, leb-true}
 use lib.ListN.{length, take, drop, length-append}
 use lib.Seq.{length-take-le, sets, sets-eq}
 use Rattle.model.specs.Growth.{Entries, limit}
@@ -16,10 +15,8 @@ use Rattle.tables.specs.declared.Refusal.the-variants as R
 use Rattle.tables.specs.declared.Answer.the-variants.{Accepted, Refused}
 use Rattle.tables.specs.Refusals.{if-accepted}
 use Rattle.tables.specs.Values.{entries-of, good-width, zero-table, refuses, check-table, GoodTable}
-use Rattle.tables.proofs.Tests.{both-true}
 use Rattle.tables.proofs.Checking.{good-few, good-long, good-holds}
-use Rattle.terms.specs.Checks.{most-tokens}
-use Rattle.codec.specs.Numbers.{sum, pair, bytes}
+use Rattle.codec.specs.Numbers.{pair, bytes}
 use Rattle.codec.proofs.Laws.{length-bytes, bytes-append, sets-append}
 use Rattle.packing.specs.Packing.{row-length}
 use Rattle.forms.specs.declared.Extent.{Extent}
@@ -28,8 +25,6 @@ use Rattle.forms.specs.declared.Layout.{Layout}
 use Rattle.forms.specs.declared.Layout.the-variants.{Plain, Packed}
 use Rattle.forms.specs.TableForms.{sized, first-size, second-size, form-length, fits, read-entries, read-sized, read-form}
 use Rattle.forms.specs.TableForms.{entry-bytes, form-of, form-answer, written}
-use Rattle.forms.specs.EquationForms.{most-equations, equations-length, counts, equations-in, check-each, check-sized}
-use Rattle.forms.specs.EquationForms.{check-equations, GoodSizes}
 use Rattle.forms.proofs.PackedRows.{rows-length}
 
 -- ---- Reading a table
@@ -131,56 +126,3 @@ module _ (t : Table) (g : GoodTable t) where
       sym (sets-append (bytes (t .l ∷ t .n ∷ [])) (entry-bytes f t) out 0)
       ∙ sets-eq (form-of f t) out 0 (omega (arith, form-long f))
       ∙ ap (λ (k : ℕ). form-of f t ++ drop k out) (zero-add (length (form-of f t)))
-
--- ---- The checks of equations
-
--- No sizes: 1.
-pub equations-unsized : (l : ℕ) (b : List ℕ) → length b < 4 → Refused R.Torn ≡ check-equations l b
-unfolding check-equations sized
-equations-unsized l b short = rw (lt-leb 4 (length b) short)
-
-module _ (l : ℕ) (b : List ℕ) (e m : ℕ) (ee : e ≡ first-size b) (em : m ≡ second-size b) (room : 4 ≤ length b) where
-  checks-sized : check-equations l b ≡ check-sized l e m b
-  unfolding check-equations sized
-  checks-sized = rw (le-leb 4 (length b) room, ee, em)
-
-  -- Too many equations or tokens: 7.
-  pub equations-long : (leb e most-equations && leb m most-tokens) ≡ false → Refused R.Long ≡ check-equations l b
-  unfolding check-sized
-  equations-long f = rw (checks-sized, f)
-
-  module _ (few : (leb e most-equations && leb m most-tokens) ≡ true) where
-    -- A length that the sizes do not give: 1.
-    pub equations-torn : ¬ (length b ≡ equations-length e m) → Refused R.Torn ≡ check-equations l b
-    unfolding check-sized
-    equations-torn f = rw (checks-sized, few, ne-eqb (length b) (equations-length e m) f)
-
-    module _ (whole : length b ≡ equations-length e m) where
-      -- Counts that do not sum to the tokens: 6.
-      pub equations-sum : ¬ (sum (counts e b) ≡ m) → Refused R.Term ≡ check-equations l b
-      unfolding check-sized
-      equations-sum f =
-          rw (checks-sized, few, eq-eqb (length b) (equations-length e m) whole, ne-eqb (sum (counts e b)) m f)
-
-      -- the sizes are good where every test of them is passed
-      pub sizes-good : sum (counts e b) ≡ m → GoodSizes b
-      sizes-good f =
-          let most = both-true (leb e most-equations) (leb m most-tokens) few in
-          record {
-            few = rw ee at (leb-true e most-equations (most .0));
-            short = rw em at (leb-true m most-tokens (most .1));
-            long = rw (ee, em) at whole;
-            whole = rw (ee, em) at f;
-          }
-
--- Where the sizes are good the equations are checked, one by one.
-pub equations-each : (l : ℕ) {b : List ℕ} → GoodSizes b → check-each l (equations-in b) ≡ check-equations l b
-unfolding check-equations check-sized sized
-equations-each l {b} g =
-    rw (
-      le-leb 4 (length b) (omega (arith, g .long)),
-      le-leb (first-size b) most-equations (g .few),
-      le-leb (second-size b) most-tokens (g .short),
-      eq-eqb (length b) (equations-length (first-size b) (second-size b)) (g .long),
-      eq-eqb (sum (counts (first-size b) b)) (second-size b) (g .whole),
-    )

@@ -6,7 +6,7 @@ use native.Mathlib.Numerals.{add-one}
 use native.Mathlib.Omega.{arith}
 use lib.ListN.{length, getD, take, drop, length-drop}
 use lib.Seq.{length-take-le, drop-cons, drop-drop, drop-append-le, sets}
-use Rattle.codec.specs.Numbers.{number-at, numbers, bytes}
+use Rattle.codec.specs.Numbers.{number-at, numbers, sum, bytes}
 use Rattle.codec.proofs.Laws.{length-numbers, number-drop, length-bytes, bytes-append, sets-append}
 
 -- the number at an index of a row
@@ -50,6 +50,16 @@ numbers-take (suc k) (suc n) (p ∷ []) h room = absurd (omega arith)
 numbers-take (suc k) (suc n) (p ∷ q ∷ b) h room =
     let e : 2 * suc k ≡ suc (suc (2 * k)) = omega arith in
     rw e (ap (λ (r : List ℕ). (p + 256 * q) ∷ r) (numbers-take k n b (omega arith) (omega arith)))
+
+-- two rows that stand one after the other are summed as one
+pub numbers-sum : (n m : ℕ) (b : List ℕ)
+    → sum (numbers (n + m) b) ≡ sum (numbers n b) + sum (numbers m (drop (2 * n) b))
+unfolding numbers sum
+numbers-sum zero m b = let e : 0 + m ≡ m = omega arith in rw e (omega arith)
+numbers-sum (suc n) m b =
+    let e : suc n + m ≡ suc (n + m) = omega arith in
+    let d : 2 * suc n ≡ 2 + 2 * n = omega arith in
+    rw (e, d, ← drop-drop (2 * n) 2 b) (omega (arith, numbers-sum n m (drop 2 b)))
 
 -- bytes that follow are not looked at
 numbers-front : (n : ℕ) (b c : List ℕ) → 2 * n ≤ length b → numbers n (b ++ c) ≡ numbers n b

@@ -4,27 +4,19 @@ use mathlib.Core.Bool.{Bool, true, false, _&&_, _||_, cond}
 use mathlib.Core.List.{List, []}
 use Prim.Native.Nat.{ℕ}
 use native.Mathlib.Omega.{arith}
-use borrow.Author.Tests.{leb-true, eqb-true}
 use lib.Dec.{ltb, leb, eqb}
 use lib.ListN.{length}
 use Rattle.model.specs.Growth.{Entries, limit, grow-all}
 use Rattle.tables.specs.declared.Refusal.{Refusal}
 use Rattle.tables.specs.declared.Refusal.the-variants as R
-use Rattle.tables.specs.declared.Answer.{Answer}
-use Rattle.tables.specs.declared.Answer.the-variants.{Accepted, Refused}
 use Rattle.tables.specs.declared.Answered.{Answered}
-use Rattle.terms.specs.Checks.{most-tokens}
-use Rattle.codec.specs.Numbers.{sum}
 use Rattle.tables.specs.Refusals.{answer-number}
 use Rattle.tables.specs.Values.{good-width, zero-table, refuses, made-or-full}
-use Rattle.tables.proofs.Tests.{both-true}
 use Rattle.forms.specs.declared.Extent.{Extent}
 use Rattle.forms.specs.declared.Layout.{Layout}
 use Rattle.forms.specs.declared.Layout.the-variants.{Plain, Packed}
 use Rattle.forms.specs.TableForms.{sized, first-size, second-size, form-length, fits, written-entries, all-well}
 use Rattle.forms.specs.TableForms.{bad-entry, read-entries, read-sized, read-form, Passed}
-use Rattle.forms.specs.EquationForms.{most-equations, equations-length, counts, equations-in, check-each, check-sized}
-use Rattle.forms.specs.EquationForms.{check-equations, GoodSizes}
 
 -- where the other branch is not what came out, the test held
 pub held : {A : Type 0} (c : Bool) (x y a : A) → cond c x y ≡ a → (y ≡ a → ⊥) → (c ≡ true) × (x ≡ a)
@@ -65,29 +57,3 @@ reads-passed f x b a late e =
     let h = held (fits x (form-length f (first-size b) (second-size b)) (length b)) _ _ a (n .1) (clash R.Torn refl) in
     let c = held (all-well f (first-size b) (second-size b) b) _ _ a (h .1) (clash (bad-entry f) (bad-early f)) in
     (record { sizes = s .0; width = w .0; few = n .0; long = h .0; clean = c .0 }, c .1)
-
--- ---- Equations
-
--- The tests of equations, all passed.
-pub record EquationsPassed (l : ℕ) (b : List ℕ) : Type 0 where
-  pub sizes : GoodSizes b
-  pub each : check-each l (equations-in b) ≡ Accepted
-
--- Equations that are accepted have passed their tests.
-pub equations-passed : (l : ℕ) (b : List ℕ) → check-equations l b ≡ Accepted → EquationsPassed l b
-unfolding check-equations check-sized
-equations-passed l b e =
-    let clash : (r : Refusal) → _≡_ {A = Answer} (Refused r) Accepted → ⊥ =
-    λ r f. absurd (let z : _≡_ {A = ℕ} 0 1 = cc in omega arith) in
-    let s = held (sized b) _ _ Accepted e (clash R.Torn) in
-    let m = held (leb (first-size b) most-equations && leb (second-size b) most-tokens) _ _ Accepted (s .1) (clash R.Long) in
-    let n = held (eqb (length b) (equations-length (first-size b) (second-size b))) _ _ Accepted (m .1) (clash R.Torn) in
-    let t = held (eqb (sum (counts (first-size b) b)) (second-size b)) _ _ Accepted (n .1) (clash R.Term) in
-    let most = both-true (leb (first-size b) most-equations) (leb (second-size b) most-tokens) (m .0) in
-    let sizes : GoodSizes b = record {
-      few = leb-true (first-size b) most-equations (most .0);
-      short = leb-true (second-size b) most-tokens (most .1);
-      long = eqb-true (length b) (equations-length (first-size b) (second-size b)) (n .0);
-      whole = eqb-true (sum (counts (first-size b) b)) (second-size b) (t .0);
-    } in
-    record { sizes = sizes; each = t .1 }

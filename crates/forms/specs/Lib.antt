@@ -1,2 +1,1 @@
 pub mod TableForms
-pub mod EquationForms

@@ -1,6 +1,5 @@
-// The written forms of tables and equations: 16-bit numbers, low byte first, and packed rows. Public are `read_table`,
+// The written forms of tables: 16-bit numbers, low byte first, and packed rows. Public are `read_table`,
 // `read_packed`, `write_table` and `write_packed`, from bytes to a table value and back. The rest is inner: not a public call.
-pub mod equations; // the walk over the equations of a form, and their checks
 pub mod entries; // the entries of a table in a form, plain or packed
 
 use tables::Answer;
@@ -24,13 +23,6 @@ pub enum Extent {
 pub enum Layout {
     Plain,
     Packed,
-}
-
-// A place among the e equations of a form: k equations and their `at` tokens stand before it.
-pub struct Cursor {
-    pub e: usize,
-    pub k: usize,
-    pub at: usize,
 }
 
 // May a form of that length be read from so many bytes?

@@ -24,6 +24,12 @@ module _ {A B : Type 0} where
   then-then none f g = refl
   then-then (some a) f g = refl
 
+-- to go on to what is given
+pub then-some : {A : Type 0} (o : Option A) → (o >>= λ a. some a) ≡ o
+unfolding _>>=_
+then-some none = refl
+then-some (some a) = refl
+
 module _ {l : ℕ} {list : List ℕ} {g : Grown} {o : Option Entries} (made : Makes l list g o)
     (k : Entries → Option Entries) {l′ : ℕ} {list′ : List ℕ} where
   pub makes-then : {n : ℕ} {r : Grown} → g ≡ Count n → ((τ : Entries) → Holds l list n τ → Makes l′ list′ r (k τ))

@@ -6,6 +6,3 @@ pub mod WordTests
 pub mod Growing
 pub mod Absorption
 pub mod TableValues
-pub mod NearEntries
-pub mod WideningByPasses
-pub mod Converting

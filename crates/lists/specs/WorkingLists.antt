@@ -1,16 +1,14 @@
 -- Working lists: one array of 256 words and a count; what they hold, and what they are grown to.
 use mathlib.Core.Path.{_≡_}
-use mathlib.Core.Bool.{Bool, true, false, _&&_, cond}
-use mathlib.Core.List.{List, [], _∷_}
+use mathlib.Core.Bool.{false}
+use mathlib.Core.List.{List, []}
 use mathlib.Core.Option.{Option, some, none}
-use Prim.Native.Nat.{ℕ, _≤_, _<_, _^_}
-use lib.Dec.{ltb}
+use Prim.Native.Nat.{ℕ, _≤_, _<_}
 use lib.ListN.{length, getD}
-use Rattle.model.specs.Groups.{Bits, or}
 use Rattle.model.specs.Strings.{Trits}
 use Rattle.model.specs.Growth.{Entries, limit}
 use Rattle.model.specs.Tables.{Good}
-use Rattle.words.specs.Words.{word, subsumes-word, near, openings}
+use Rattle.words.specs.Words.{word, subsumes-word}
 use Rattle.lists.specs.declared.Grown.{Grown}
 use Rattle.lists.specs.declared.Grown.the-variants.{Count, Full}
 
@@ -40,22 +38,3 @@ pub data Makes (l : ℕ) (list : List ℕ) : Grown → Option Entries → Type 0
 -- y subsumes none of the entries before index r.
 abbrev pub Free : List ℕ → ℕ → ℕ → Type 0
 Free list y r = (i : ℕ) → i < r → subsumes-word y (getD list i 0) ≡ false
-
--- ---- What widening looks at
-
--- The entries that lack at most one position of y, in order.
-unfoldable pub near-list : Entries → Trits → Entries
-near-list [] y = []
-near-list (e ∷ τ) y = cond (near e y) (e ∷ near-list τ y) (near-list τ y)
-
--- The positions of y that some entry opens: those fixed positions at which y with that value flipped is subsumed by one entry.
-unfoldable pub open-set : Entries → Trits → Bits
-open-set [] y = []
-open-set (e ∷ τ) y = or (openings e y) (open-set τ y)
-
--- ---- The words that are converted
-
--- No word has a bit above l.
-unfoldable pub all-below : ℕ → List ℕ → Bool
-all-below l [] = true
-all-below l (w ∷ ws) = ltb w (2 ^ l) && all-below l ws

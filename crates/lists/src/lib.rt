@@ -2,8 +2,6 @@
 // A scan has no early exit, or one after each block of 8, so that it compiles to vector code.
 pub mod growth; // growing a list by one string or by each of a row
 pub mod filter; // the same, with the strings grown before kept at hand
-pub mod widening; // widening against a list, and growing by what comes out
-pub mod conversion; // converting a row of groups
 pub mod values; // from a table value and back
 
 // The new count of a list, or that it needs entry 257.

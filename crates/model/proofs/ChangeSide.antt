@@ -195,7 +195,7 @@ pub record Changed (l : ℕ) (τ ρ : Entries) : Type 0 where
   pub exact : (g : Bits) → length g ≡ l → T (nonzero g) → covered ρ g ≡ not (covered τ g)
   pub within : (g : Bits) → T (covered ρ g) → (length g ≡ l) × T (not (covered τ g))
 
-stars-nonzero : (l : ℕ) → 0 < l → ¬ (T (all-zero (stars l)))
+pub stars-nonzero : (l : ℕ) → 0 < l → ¬ (T (all-zero (stars l)))
 unfolding all-zero stars
 stars-nonzero zero h = λ z. omega arith
 stars-nonzero (suc l) h = λ z. z

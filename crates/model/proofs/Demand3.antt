@@ -1,7 +1,8 @@
--- Demand 3 in the abstract: one claim about a whole list of calls, for any exact call function. Assumes nothing.
+-- Demand 3 in the abstract: one claim about a whole list of calls, x = t and two terms mixed, for any exact call function.
+-- Assumes nothing.
 use mathlib.Core.Path.{_≡_, refl, sym, subst}
 use mathlib.Core.List.{List, [], _∷_}
-use mathlib.Core.Logic.{⊎-map}
+use mathlib.Core.Logic.{_↔_, ⊎-map}
 use mathlib.Core.Option.{Option, some, none}
 use Prim.Native.Nat.{ℕ}
 use native.Mathlib.Omega.{arith}
@@ -9,16 +10,59 @@ use Rattle.model.specs.Groups.{Bits, Groups}
 use Rattle.model.specs.Growth.{Entries}
 use Rattle.model.specs.Tables.{Side, Good, groups}
 use Rattle.model.specs.Questions.{Equal}
-use Rattle.model.specs.Equations.{Equation, After, equation}
-use Rattle.model.specs.Bindings.{Bindings, apply-all, string-of, Describes}
-use Rattle.model.specs.Calls.{Reaches, Answer, accepts, refuses, returned, event, last-table, events, Exact, answer}
-use Rattle.model.specs.Calls.{equation-call}
+use Rattle.model.specs.Terms.{Term, var}
+use Rattle.model.specs.Equations.{Equation, After}
+use Rattle.model.specs.Walk.{Sides, Walked, walk, walk-sides}
+use Rattle.model.specs.Unification.{AfterEach, AfterWalk, AfterSides, unification}
+use Rattle.model.specs.Bindings.{Bindings, Substitution, bound, as-bound, Admitted, apply-all, string-of, Describes}
+use Rattle.model.specs.Calls.{Step, unified, Steps, Walks, Event, accepted, Reaches, Answer, accepts, refuses, returned}
+use Rattle.model.specs.Calls.{event, last-table, events, Exact, answer, unify-call}
 use Rattle.model.proofs.Sharing.{sharing}
-use Rattle.model.proofs.Demand2.{equation-exact, equation-good}
+use Rattle.model.proofs.Unification.{walk-exact, walk-good}
 
 -- A set of groups describes bindings where a smaller one does.
 pub describes-more : (S S′ : Groups) (θ : Bindings) → ((g : Bits) → S g → S′ g) → Describes S θ → Describes S′ θ
 describes-more S S′ θ f d v = ⊎-map (λ z. z) (f (string-of θ v)) (d v)
+
+-- ---- One found equation, each in turn, a walk
+
+step-described : (S : Groups) (θ φ : Bindings) (e : Equation) → Describes S θ → Step θ e φ → Describes (After e S) φ
+step-described S θ φ e d (unified σ a) = sharing S θ (e .left) (e .right) σ d a
+
+steps-described : (es : List Equation) (S : Groups) (θ θ′ : Bindings) → Describes S θ → Steps θ es θ′
+    → Describes (AfterEach es S) θ′
+unfolding AfterEach Steps
+steps-described [] S θ θ′ d r = rw r d
+steps-described (e ∷ es) S θ θ′ d r =
+    steps-described es (After e S) (r .0) θ′ (step-described S θ (r .0) e d (r .1)) (r .2)
+
+-- The bindings after a walk are described by the groups after it.
+pub walk-described : (o : Walked) (S : Groups) (θ θ′ : Bindings) → Describes S θ → Walks θ o θ′
+    → Describes (AfterWalk o S) θ′
+unfolding AfterWalk Walks
+walk-described none S θ θ′ d r = absurd r
+walk-described (some es) S θ θ′ d r = steps-described es S θ θ′ d r
+
+-- ---- A call x = t
+
+-- An equation x = t as two sides.
+abbrev pub with-variable : ℕ → Term → Sides
+with-variable x t = record { left = var x; right = t }
+
+-- An accepted call x = t is what 01 says: any admitted unifier of its two sides as bound is applied to all terms.
+pub equation-reaches : (θ θ′ : Bindings) (x : ℕ) (t : Term) (es : List Event) → Reaches θ (accepted (with-variable x t) ∷ es) θ′
+    ↔ ((σ : Substitution) × Admitted σ (bound θ x) (as-bound θ t) × Reaches (apply-all σ θ) es θ′)
+unfolding Reaches Walks Steps walk
+equation-reaches θ θ′ x t es = (
+  λ r. go (r .1 .0) (r .1 .1) (subst (λ (φ : Bindings). Reaches φ es θ′) (r .1 .2) (r .2)),
+  λ r. let φ = apply-all (r .0) θ in (φ, (φ, unified (r .0) (r .1), refl), r .2),
+)
+  where
+    go : (φ : Bindings) → Step θ (record { left = x; right = t }) φ → Reaches φ es θ′
+        → (σ : Substitution) × Admitted σ (bound θ x) (as-bound θ t) × Reaches (apply-all σ θ) es θ′
+    go φ (unified σ a) rest = (σ, a, rest)
+
+-- ---- A list of calls
 
 module _ {Table Call : Type 0} (groups : Table → Groups) (Good : Table → Type 0) (call : Table → Call → Answer Table)
     (exact : Exact groups Good call) where
@@ -34,42 +78,42 @@ module _ {Table Call : Type 0} (groups : Table → Groups) (Good : Table → Typ
           (groups (last-table call υ cs)) θ′)
           → (a : Answer Table) → call τ c ≡ a → Reaches θ (event a ∷ events call (returned a) cs) θ′
           → Describes (groups (last-table call (returned a) cs)) θ′
-      go rest (accepts e υ) p s =
-          rest υ (apply-all (s .0) θ) (exact .good τ c e υ w p)
-          (describes-more (After e (groups τ)) (groups υ) (apply-all (s .0) θ) (λ g. exact .same τ c e υ w p g .1)
-          (sharing (groups τ) θ (e .left) (e .right) (s .0) d (s .1)))
-          (s .2)
-      go rest (refuses n υ) p s =
+      go rest (accepts s υ) p r =
+          rest υ (r .0) (exact .good τ c s υ w p)
+          (describes-more (AfterSides s (groups τ)) (groups υ) (r .0) (λ g. exact .same τ c s υ w p g .1)
+          (walk-described (walk-sides s) (groups τ) θ (r .0) d (r .1)))
+          (r .2)
+      go rest (refuses n υ) p r =
           let k : υ ≡ τ = exact .kept τ c n υ w p in
-          rest υ θ (subst Good (sym k) w) (subst (λ (t : Table). Describes (groups t) θ) (sym k) d) s
+          rest υ θ (subst Good (sym k) w) (subst (λ (t : Table). Describes (groups t) θ) (sym k) d) r
 
--- ---- The equation call on entries, of either side
+-- ---- The call on entries, of either side
 
 -- what an answer says of what was given
-accepted-gives : (e f : Equation) (τ ρ : Entries) (o : Option Entries) → answer e τ o ≡ accepts f ρ → (o ≡ some ρ) × (f ≡ e)
+accepted-gives : (s c : Sides) (τ ρ : Entries) (o : Option Entries) → answer s τ o ≡ accepts c ρ → (o ≡ some ρ) × (c ≡ s)
 unfolding answer
-accepted-gives e f τ ρ (some υ) p = (cc, cc)
-accepted-gives e f τ ρ none p = absurd (let z : _≡_ {A = ℕ} 0 1 = cc in omega arith)
+accepted-gives s c τ ρ (some υ) p = (cc, cc)
+accepted-gives s c τ ρ none p = absurd (let z : _≡_ {A = ℕ} 0 1 = cc in omega arith)
 
-refused-keeps : (e : Equation) (τ ρ : Entries) (n : ℕ) (o : Option Entries) → answer e τ o ≡ refuses n ρ → ρ ≡ τ
+refused-keeps : (s : Sides) (τ ρ : Entries) (n : ℕ) (o : Option Entries) → answer s τ o ≡ refuses n ρ → ρ ≡ τ
 unfolding answer
-refused-keeps e τ ρ n (some υ) p = absurd (let z : _≡_ {A = ℕ} 0 1 = cc in omega arith)
-refused-keeps e τ ρ n none p = cc
+refused-keeps s τ ρ n (some υ) p = absurd (let z : _≡_ {A = ℕ} 0 1 = cc in omega arith)
+refused-keeps s τ ρ n none p = cc
 
-pub equation-call-exact : (side : Side) (l : ℕ) → Exact (groups side l) (Good l) (equation-call side l)
-unfolding equation-call
-equation-call-exact side l = record {
-  good = λ τ c e ρ w p. equation-good side l c τ ρ w (accepted-gives c e τ ρ (equation side l c τ) p .0) .0;
-  same = λ τ c e ρ w p.
-      let a = accepted-gives c e τ ρ (equation side l c τ) p in
-      subst (λ (f : Equation). Equal (groups side l ρ) (After f (groups side l τ))) (sym (a .1))
-      (equation-exact side l c τ ρ w (a .0));
-  kept = λ τ c n ρ w p. refused-keeps c τ ρ n (equation side l c τ) p;
+pub unify-call-exact : (side : Side) (l : ℕ) → Exact (groups side l) (Good l) (unify-call side l)
+unfolding unify-call unification
+unify-call-exact side l = record {
+  good = λ τ c s ρ w p. walk-good side l (walk-sides c) τ ρ w (accepted-gives c s τ ρ (unification side l c τ) p .0);
+  same = λ τ c s ρ w p.
+      let a = accepted-gives c s τ ρ (unification side l c τ) p in
+      subst (λ (f : Sides). Equal (groups side l ρ) (AfterSides f (groups side l τ))) (sym (a .1))
+      (walk-exact side l (walk-sides c) τ ρ w (a .0));
+  kept = λ τ c n ρ w p. refused-keeps c τ ρ n (unification side l c τ) p;
 }
 
--- For every list of equations, refused ones included, on entries of either side, whatever admitted unifier is applied at
--- each accepted one: the entries after the list describe the bindings after it.
-pub equations-described : (side : Side) (l : ℕ) (es : List Equation) (τ : Entries) (θ θ′ : Bindings) → Good l τ
+-- For every list of calls, x = t and two terms mixed, refused ones included, on entries of either side, whatever admitted
+-- unifier is applied at each found equation: the entries after the list describe the bindings after it.
+pub calls-described : (side : Side) (l : ℕ) (cs : List Sides) (τ : Entries) (θ θ′ : Bindings) → Good l τ
     → Describes (groups side l τ) θ
-    → Reaches θ (events (equation-call side l) τ es) θ′ → Describes (groups side l (last-table (equation-call side l) τ es)) θ′
-equations-described side l = described (groups side l) (Good l) (equation-call side l) (equation-call-exact side l)
+    → Reaches θ (events (unify-call side l) τ cs) θ′ → Describes (groups side l (last-table (unify-call side l) τ cs)) θ′
+calls-described side l = described (groups side l) (Good l) (unify-call side l) (unify-call-exact side l)

@@ -14,7 +14,11 @@ use Rattle.model.specs.Tables.{Side, positive, negative, meets-of, ors, 
 use Rattle.model.specs.Tables.{close-with, close, take-away, change-side, positive-equation, negative-equation}
 use Rattle.model.specs.Tables.{equation-of-sets, join, kept, positive-projection, projection}
 use Rattle.model.specs.Full.{Full, Meets, OrLater, CloseFull, ConvertFull, ChangeFull, PositiveFull, NegativeFull}
-use Rattle.model.specs.Full.{EquationFull, JoinFull, ProjectionFull}
+use Rattle.model.specs.Full.{EquationFull, JoinFull, ProjectionFull, WalkFull}
+use Rattle.model.specs.Terms.{var, variables}
+use Rattle.model.specs.Equations.{equation}
+use Rattle.model.specs.Walk.{Walked}
+use Rattle.model.specs.Unification.{next-equation, walk-entries}
 use Rattle.model.proofs.Given.{fold-append}
 use Rattle.model.proofs.Overflow.{grow-none, full-none, full-exact}
 
@@ -151,3 +155,13 @@ unfolding projection ProjectionFull positive-projection
 projection-full positive l k τ = full-exact [] (map (cut k) τ)
 projection-full negative l k τ =
     then-full (change-full l τ) (λ P. then-full (full-exact [] (map (cut k) P)) (λ C. change-full (kept k) C))
+
+-- ---- A walk
+
+-- A walk gives nothing exactly where it does not clash and some list of one of the found equations needs entry 257.
+pub walk-full : (side : Side) (l : ℕ) (o : Walked) (τ : Entries) → (walk-entries side l o τ ≡ none) ↔ WalkFull side l o τ
+unfolding walk-entries WalkFull equation
+walk-full side l none τ = (λ e. none-some e, λ h. absurd h)
+walk-full side l (some es) τ =
+    fold-full (next-equation side l)
+    (λ ρ e. equation-full side l (variables l (var (e .left))) (variables l (e .right)) ρ) τ es

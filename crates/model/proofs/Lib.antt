@@ -22,6 +22,8 @@ pub mod Projection
 pub mod Variables
 pub mod Exact
 pub mod Demand2
+pub mod Unification
+pub mod Unifiers
 pub mod Occurrence
 pub mod Sharing
 pub mod Demand3

@@ -2,7 +2,7 @@
 use mathlib.Core.Path.{_≡_}
 use mathlib.Core.List.{List, [], _∷_, _++_, map}
 use mathlib.Core.Logic.{_⊎_}
-use mathlib.Core.Option.{Option, some}
+use mathlib.Core.Option.{Option, some, none}
 use Prim.Native.Nat.{ℕ, _≤_}
 use lib.Dec.{T}
 use mathlib.Core.Bool.{_||_}
@@ -13,6 +13,10 @@ use Rattle.model.specs.Growth.{fold, Entries, limit, subsumed, remove, g
 use Rattle.model.specs.Growth.{Overflows}
 use Rattle.model.specs.Tables.{Side, positive, negative, meets-of, ors, unmatched, pieces-of, relevant, irrelevant, cross}
 use Rattle.model.specs.Tables.{close-with, close, take-away, change-side, kept, positive-projection}
+use Rattle.model.specs.Terms.{var, variables}
+use Rattle.model.specs.Equations.{Equation}
+use Rattle.model.specs.Walk.{Walked}
+use Rattle.model.specs.Unification.{next-equation}
 
 -- y is to be appended to 256 entries or more.
 abbrev pub Full : Entries → Trits → Type 0
@@ -83,3 +87,13 @@ ProjectionFull positive l k τ = Overflows [] (map (cut k) τ)
 ProjectionFull negative l k τ =
     OrLater (ChangeFull l τ) (change-side l τ) (λ P.
     OrLater (Overflows [] (map (cut k) P)) (positive-projection k P) (λ C. ChangeFull (kept k) C))
+
+-- Equations in order: some list of one of them, on the entries that those before it give.
+abbrev pub EachFull : Side → ℕ → Entries → List Equation → Type 0
+EachFull side l =
+    Meets (λ τ e. EquationFull side l (variables l (var (e .left))) (variables l (e .right)) τ) (next-equation side l)
+
+-- A walk: some list of one of the found equations; a clash needs none.
+unfoldable pub WalkFull : Side → ℕ → Walked → Entries → Type 0
+WalkFull side l none τ = ⊥
+WalkFull side l (some es) τ = EachFull side l τ es

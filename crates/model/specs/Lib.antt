@@ -8,6 +8,8 @@ pub mod Questions
 pub mod Terms
 pub mod Tokens
 pub mod Equations
+pub mod Walk
+pub mod Unification
 pub mod Bindings
 pub mod Goals
 pub mod Calls

@@ -1,5 +1,5 @@
 -- What holds after a call's checks: of a good table, of an equation that was read, of a set to project on. Assumes nothing.
-use mathlib.Core.Path.{_≡_, refl, sym, ap, subst}
+use mathlib.Core.Path.{_≡_, refl, ap, subst}
 use mathlib.Core.Bool.{Bool, true, false, _&&_, cond}
 use mathlib.Core.List.{List}
 use Prim.Native.Nat.{ℕ, _-_, _^_, _≤_, _<_}
@@ -14,6 +14,7 @@ use Rattle.words.specs.Words.{set-word}
 use Rattle.tables.specs.declared.Table.{Table}
 use Rattle.tables.specs.declared.Refusal.{Refusal}
 use Rattle.tables.specs.declared.Refusal.the-variants as R
+use Rattle.tables.specs.declared.Answer.the-variants as N
 use Rattle.lists.specs.WorkingLists.{Holds}
 use Rattle.tables.specs.Lists.{Stores}
 use Rattle.tables.specs.Values.{refuses, GoodTable, entries-of}
@@ -21,7 +22,8 @@ use Rattle.tables.proofs.Checking.{good-holds, width-most}
 use Rattle.tables.proofs.Tests.{both-true, below-full}
 use Rattle.terms.specs.declared.Checked.the-variants.{Variables, Refused}
 use Rattle.terms.specs.Checks as C
-use Rattle.terms.specs.Checks.{check-equation, check-term, checked}
+use Rattle.terms.specs.Checks.{check-equation, check-term, checked, check-answer}
+use Rattle.terms.proofs.Checking.{checked-reads}
 use Rattle.operations.specs.Operations.{good-keep}
 
 -- ---- A good table
@@ -54,16 +56,6 @@ pub record Read (l x : ℕ) (ts : List ℕ) (m : ℕ) : Type 0 where
   pub low : 0 < x
   pub high : x ≤ l
 
-outcome : (l m : ℕ) (o : C.Outcome Term) → checked l o ≡ Variables m → (u : Term) × (o ≡ C.reads u) × (m ≡ set-word (variables l u))
-unfolding checked
-outcome l m (C.reads u) e = (u, refl, sym cc)
-outcome l m (C.refuses r) e = absurd (let z : _≡_ {A = ℕ} 0 1 = cc in omega arith)
-
-pub refused-outcome : (l : ℕ) (r : Refusal) (o : C.Outcome Term) → checked l o ≡ Refused r → o ≡ C.refuses r
-unfolding checked
-refused-outcome l r (C.reads u) e = absurd (let z : _≡_ {A = ℕ} 0 1 = cc in omega arith)
-refused-outcome l r (C.refuses s) e = cc
-
 -- where the two tests before the term's fail, the outcome is a refusal
 read-tests : (b c : Bool) (o : C.Outcome Term) (u : Term)
     → cond b (cond c o (C.refuses R.Name)) (C.refuses R.Long) ≡ C.reads u → c ≡ true
@@ -74,10 +66,23 @@ read-tests false c o u e = absurd (let z : _≡_ {A = ℕ} 0 1 = cc in omega ari
 pub read-equation : (l x : ℕ) (ts : List ℕ) (m : ℕ) → checked l (check-equation l x ts) ≡ Variables m → Read l x ts m
 unfolding check-equation
 read-equation l x ts m e =
-    let o = outcome l m (check-equation l x ts) e in
+    let o = checked-reads l m (check-equation l x ts) e in
     let n = read-tests (leb (length ts) C.most-tokens) (named l x) (check-term l ts) (o .0) (o .1) in
     let b = both-true (ltb 0 x) (leb x l) n in
     record { term = o .0; is = o .1; word = o .2; left = n; low = ltb-true 0 x (b .0); high = leb-true x l (b .1) }
+
+-- ---- The checks of two terms
+
+-- accepted: they were read
+pub answer-reads : {A : Type 0} (o : C.Outcome A) → check-answer o ≡ N.Accepted → (a : A) × (o ≡ C.reads a)
+unfolding check-answer
+answer-reads (C.reads a) e = (a, refl)
+answer-reads (C.refuses r) e = absurd (let z : _≡_ {A = ℕ} 0 1 = cc in omega arith)
+
+pub answer-refuses : {A : Type 0} {r : Refusal} (o : C.Outcome A) → check-answer o ≡ N.Refused r → o ≡ C.refuses r
+unfolding check-answer
+answer-refuses (C.reads a) e = absurd (let z : _≡_ {A = ℕ} 0 1 = cc in omega arith)
+answer-refuses (C.refuses r) e = cc
 
 -- ---- The set of a projection
 

@@ -14,9 +14,12 @@ use Rattle.model.specs.Growth.{Entries, convert}
 use Rattle.model.specs.Terms.{Term}
 use Rattle.model.specs.Tables.{Side, positive, opposite, Good, groups, kept, change-side, join, projection}
 use Rattle.model.specs.Questions.{Equal}
-use Rattle.model.specs.Equations.{Equation, After, equation}
+use Rattle.model.specs.Equations.{Equation, equation}
+use Rattle.model.specs.Walk.{walk-sides}
+use Rattle.model.specs.Unification.{unification}
 use Rattle.model.proofs.Fullness as F
 use Rattle.model.proofs.Demand2 as D
+use Rattle.model.proofs.Unification.{walk-exact, walk-good}
 use Rattle.words.specs.Words.{set}
 use Rattle.words.proofs.Codec.{set-length, sets-long, set-word-set, nonzero-word}
 use Rattle.tables.specs.declared.Table.{Table}
@@ -30,13 +33,12 @@ use Rattle.tables.specs.Values.{table-of, entries-of, refuses, made-or-full, go
 use Rattle.tables.proofs.Values.{entries-of-table, table-of-good}
 use Rattle.tables.proofs.Checking.{width-most, passes-good}
 use Rattle.tables.proofs.Tests.{both-true}
-use Rattle.lists.specs.WorkingLists.{all-below}
+use Rattle.conversion.specs.Conversion.{all-below}
 use Rattle.terms.specs.Checks as C
-use Rattle.operations.specs.Operations.{good-keep, projected, convert-call, equation-call, join-call}
+use Rattle.operations.specs.Operations.{good-keep, projected, convert-call, equation-call, unify-call, join-call}
 use Rattle.operations.specs.Operations.{projection-call, change-side-call}
 use Rattle.operations.specs.Outcomes.{TableValue, groups-of, Becomes, Outcome, early, full, accepted, ConvertOutcome}
-use Rattle.operations.specs.Outcomes.{EquationEarly, EquationReady, EquationNeeds, EquationOutcome, JoinOutcome}
-use Rattle.operations.specs.Outcomes.{ProjectionOutcome, ChangeOutcome}
+use Rattle.operations.specs.Outcomes.{EquationOutcome, UnifyOutcome, JoinOutcome, ProjectionOutcome, ChangeOutcome}
 
 -- the table of a good list stands for the list's groups
 becomes : (side : Side) (l : ℕ) (S : Groups) (ρ : Entries) → good-width l ≡ true → Good l ρ → Equal (groups side l ρ) S
@@ -79,6 +81,16 @@ module _ {t : Table} {Early : Refusal → Type 0} {Ready : Type 0} {Full : Ready
   tested-first true a f g = g refl
   tested-first false a f g = early (f refl)
 
+-- a call goes on only with what was read
+module _ {t : Table} {Early : Refusal → Type 0} {Ready : Type 0} {Full : Ready → Type 0} {Result : Ready → Table → Type 0}
+    {A : Type 0} where
+  read-first : (o : C.Outcome A) (next : A → Answered) → ((r : Refusal) → o ≡ C.refuses r → Early r)
+      → ((a : A) → o ≡ C.reads a → Outcome t Early Ready Full Result (next a))
+      → Outcome t Early Ready Full Result (C.if-read o (λ r. refuses r t) next)
+  unfolding C.if-read
+  read-first (C.reads a) next f g = g a refl
+  read-first (C.refuses r) next f g = early (f r refl)
+
 -- The result of an accepted call, from how it can answer.
 module _ {t : Table} {Early : Refusal → Type 0} {Ready : Type 0} {Full : Ready → Type 0} {Result : Ready → Table → Type 0} where
   pub result : {a : Answered} → Outcome t Early Ready Full Result a → a .answer ≡ Accepted
@@ -103,23 +115,27 @@ convert-outcome l ws =
 -- ---- Equation
 
 pub equation-outcome : (side : Side) (t : Table) (x : ℕ) (ts : List ℕ) → TableValue t → EquationOutcome side t x ts
-unfolding equation-call C.if-read equation
+unfolding equation-call equation
 equation-outcome side t x ts value =
-    checked-first t value _ (λ r e. inl e) (λ good. go good (C.check-equation (t .l) x ts) refl)
-  where
-    eq : Term → Equation
-    eq u = record { left = x; right = u }
+    let eq : Term → Equation = λ u. record { left = x; right = u } in
+    checked-first t value _ (λ r e. inl e) (λ good.
+    read-first (C.check-equation (t .l) x ts) _ (λ r e. inr (good, e)) (λ u e.
+    grown (record { table = good; term = u; reads = e }) (t .l) _ (F.equation-full side (t .l) _ _ (entries-of t))
+    (λ ρ m.
+    becomes side (t .l) _ ρ (good .width) (D.equation-good side (t .l) (eq u) (entries-of t) ρ (good .list) m .0)
+    (D.equation-exact side (t .l) (eq u) (entries-of t) ρ (good .list) m))))
 
-    go : GoodTable t → (o : C.Outcome Term) → C.check-equation (t .l) x ts ≡ o
-        → Outcome t (EquationEarly t x ts) (EquationReady t x ts) (λ r. EquationNeeds side t x (r .term))
-        (λ r. Becomes side (t .l) (After (record { left = x; right = r .term }) (groups-of side t)))
-        (C.if-read o (λ r. refuses r t) (λ u. made-or-full (t .l) t (equation side (t .l) (eq u) (entries-of t))))
-    go good (C.reads u) e =
-        grown (record { table = good; term = u; reads = e }) (t .l) _ (F.equation-full side (t .l) _ _ (entries-of t))
-        (λ ρ m.
-        becomes side (t .l) _ ρ (good .width) (D.equation-good side (t .l) (eq u) (entries-of t) ρ (good .list) m .0)
-        (D.equation-exact side (t .l) (eq u) (entries-of t) ρ (good .list) m))
-    go good (C.refuses r) e = early (inr (good, e))
+-- ---- Two terms
+
+pub unify-outcome : (side : Side) (t : Table) (ss ts : List ℕ) → TableValue t → UnifyOutcome side t ss ts
+unfolding unify-call unification
+unify-outcome side t ss ts value =
+    checked-first t value _ (λ r e. inl e) (λ good.
+    read-first (C.check-sides (t .l) ss ts) _ (λ r e. inr (good, e)) (λ s e.
+    grown (record { table = good; sides = s; reads = e }) (t .l) _ (F.walk-full side (t .l) (walk-sides s) (entries-of t))
+    (λ ρ m.
+    becomes side (t .l) _ ρ (good .width) (walk-good side (t .l) (walk-sides s) (entries-of t) ρ (good .list) m)
+    (walk-exact side (t .l) (walk-sides s) (entries-of t) ρ (good .list) m))))
 
 -- ---- Join
 

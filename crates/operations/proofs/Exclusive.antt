@@ -8,6 +8,7 @@ use native.Mathlib.Omega.{arith}
 use lib.Dec.{T}
 use Rattle.model.specs.Terms.{Term}
 use Rattle.model.specs.Tables.{Side}
+use Rattle.model.specs.Walk.{Sides}
 use Rattle.tables.specs.declared.Table.{Table}
 use Rattle.tables.specs.declared.Refusal.{Refusal}
 use Rattle.tables.specs.declared.Refusal.the-variants as R
@@ -17,15 +18,16 @@ use Rattle.tables.specs.Refusals.{member, one-of}
 use Rattle.tables.specs.Values.{good-width, check-table, GoodTable}
 use Rattle.tables.proofs.Checking.{good-passes}
 use Rattle.tables.proofs.Numbers.{within, one-of-more, check-numbers}
-use Rattle.lists.specs.WorkingLists.{all-below}
+use Rattle.conversion.specs.Conversion.{all-below}
 use Rattle.terms.specs.Checks as C
-use Rattle.terms.proofs.Checking.{equation-numbers}
+use Rattle.terms.proofs.Checking.{equation-numbers, sides-numbers}
 use Rattle.operations.specs.Operations.{good-keep}
 use Rattle.operations.specs.Outcomes.{TableValue, Outcome, early, full, accepted, Exclusive, ConvertEarly}
 use Rattle.operations.specs.Outcomes.{ConvertReady, ConvertExclusive}
-use Rattle.operations.specs.Outcomes.{EquationNeeds, EquationExclusive, JoinEarly, JoinReady, JoinExclusive}
-use Rattle.operations.specs.Outcomes.{ProjectionExclusive, ChangeExclusive}
-use Rattle.operations.proofs.Demand2.{convert-outcome, equation-outcome, join-outcome, projection-outcome, change-outcome}
+use Rattle.operations.specs.Outcomes.{EquationNeeds, EquationExclusive, UnifyNeeds, UnifyExclusive, JoinEarly}
+use Rattle.operations.specs.Outcomes.{JoinReady, JoinExclusive, ProjectionExclusive, ChangeExclusive}
+use Rattle.operations.proofs.Demand2.{convert-outcome, equation-outcome, unify-outcome, join-outcome}
+use Rattle.operations.proofs.Demand2.{projection-outcome, change-outcome}
 
 -- ---- Conditions that exclude each other
 
@@ -80,14 +82,25 @@ module _ {ns : List ℕ} where
     numbers = λ r e. one-of-more (2 ∷ 3 ∷ 4 ∷ []) ns r w (check-numbers t r e);
   }
 
-  -- the checks of an equation
-  pub term-conditions : (l x : ℕ) (ts : List ℕ) → T (within (7 ∷ 5 ∷ 6 ∷ []) ns)
-      → Conditions ns (λ r. C.check-equation l x ts ≡ C.refuses r) ((u : Term) × (C.check-equation l x ts ≡ C.reads u))
-  term-conditions l x ts w = record {
+  -- checks that read something, and refuse by 7, 5 or 6
+  checks-conditions : {A : Type 0} (o : C.Outcome A) → T (within (7 ∷ 5 ∷ 6 ∷ []) ns)
+      → ((r : Refusal) → o ≡ C.refuses r → T (one-of (7 ∷ 5 ∷ 6 ∷ []) r))
+      → Conditions ns (λ r. o ≡ C.refuses r) ((a : A) × (o ≡ C.reads a))
+  checks-conditions o w numbered = record {
     apart = λ r e g. let p = g .1 in absurd (let z : _≡_ {A = ℕ} 0 1 = cc in omega arith);
     one = λ r s e d. cc;
-    numbers = λ r e. one-of-more (7 ∷ 5 ∷ 6 ∷ []) ns r w (equation-numbers l x ts r e);
+    numbers = λ r e. one-of-more (7 ∷ 5 ∷ 6 ∷ []) ns r w (numbered r e);
   }
+
+  -- those of an equation
+  pub term-conditions : (l x : ℕ) (ts : List ℕ) → T (within (7 ∷ 5 ∷ 6 ∷ []) ns)
+      → Conditions ns (λ r. C.check-equation l x ts ≡ C.refuses r) ((u : Term) × (C.check-equation l x ts ≡ C.reads u))
+  term-conditions l x ts w = checks-conditions (C.check-equation l x ts) w (equation-numbers l x ts)
+
+  -- those of two terms
+  pub sides-conditions : (l : ℕ) (ss ts : List ℕ) → T (within (7 ∷ 5 ∷ 6 ∷ []) ns)
+      → Conditions ns (λ r. C.check-sides l ss ts ≡ C.refuses r) ((s : Sides) × (C.check-sides l ss ts ≡ C.reads s))
+  sides-conditions l ss ts w = checks-conditions (C.check-sides l ss ts) w (sides-numbers l ss ts)
 
 -- ---- The law
 
@@ -179,6 +192,17 @@ equation-exclusive side t x ts value =
     refl
     (λ p q f. subst (λ (u : Term). EquationNeeds side t x u) (let is : p .term ≡ q .term = cc in is) f)
     (equation-outcome side t x ts value)
+
+-- The answers of the call on two terms exclude each other.
+pub unify-exclusive : (side : Side) (t : Table) (ss ts : List ℕ) → TableValue t → UnifyExclusive side t ss ts
+unfolding one-of member within
+unify-exclusive side t ss ts value =
+    exclusive (2 ∷ 3 ∷ 4 ∷ 7 ∷ 5 ∷ 6 ∷ [])
+    (as-said (and-then (table-conditions t tt) (sides-conditions (t .l) ss ts tt)) (λ r e. e)
+    (λ e. (e .table, (e .sides, e .reads))))
+    refl
+    (λ p q f. subst (λ (s : Sides). UnifyNeeds side t s) (let is : p .sides ≡ q .sides = cc in is) f)
+    (unify-outcome side t ss ts value)
 
 -- The answers of the join exclude each other.
 pub join-exclusive : (side : Side) (t u : Table) → TableValue t → TableValue u → JoinExclusive side t u

@@ -7,10 +7,11 @@ use Rattle.tables.specs.declared.Refusal.{Refusal}
 use Rattle.tables.specs.declared.Answered.{Answered}
 use Rattle.tables.specs.Values.{GoodTable}
 use Rattle.tables.proofs.Checking.{good-past}
-use Rattle.operations.specs.Operations.{convert-call, equation-call, join-call, projection-call, change-side-call}
+use Rattle.operations.specs.Operations.{convert-call, equation-call, unify-call, join-call, projection-call}
+use Rattle.operations.specs.Operations.{change-side-call}
 use Rattle.operations.specs.Outcomes.{TableValue, Outcome, ZeroPast}
-use Rattle.operations.proofs.Demand2.{result, convert-outcome, equation-outcome, join-outcome, projection-outcome}
-use Rattle.operations.proofs.Demand2.{change-outcome}
+use Rattle.operations.proofs.Demand2.{result, convert-outcome, equation-outcome, unify-outcome, join-outcome}
+use Rattle.operations.proofs.Demand2.{projection-outcome, change-outcome}
 
 -- a call whose results are good tables
 module _ {t : Table} {Early : Refusal → Type 0} {Ready : Type 0} {Full : Ready → Type 0} {Result : Ready → Table → Type 0}
@@ -25,6 +26,10 @@ convert-past l ws = good-zero (λ r u b. b .good) (convert-outcome l ws)
 -- The table that an equation makes is zero past its count.
 pub equation-past : (side : Side) (t : Table) (x : ℕ) (ts : List ℕ) → TableValue t → ZeroPast (equation-call side t x ts)
 equation-past side t x ts value = good-zero (λ r u b. b .good) (equation-outcome side t x ts value)
+
+-- The table that a call on two terms makes is zero past its count.
+pub unify-past : (side : Side) (t : Table) (ss ts : List ℕ) → TableValue t → ZeroPast (unify-call side t ss ts)
+unify-past side t ss ts value = good-zero (λ r u b. b .good) (unify-outcome side t ss ts value)
 
 -- The table that a join makes is zero past its count.
 pub join-past : (side : Side) (t u : Table) → TableValue t → TableValue u → ZeroPast (join-call side t u)

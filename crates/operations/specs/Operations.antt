@@ -8,14 +8,15 @@ use Rattle.model.specs.Growth.{convert}
 use Rattle.model.specs.Tables.{positive, negative, change-side, join, kept, projection}
 use Rattle.model.specs.Tables as M
 use Rattle.model.specs.Equations.{equation}
+use Rattle.model.specs.Unification.{unification}
 use Rattle.words.specs.Words.{set}
 use Rattle.tables.specs.declared.Table.{Table}
 use Rattle.tables.specs.declared.Refusal.the-variants as R
 use Rattle.tables.specs.declared.Answered.{Answered}
 use Rattle.tables.specs.Refusals.{if-accepted}
 use Rattle.tables.specs.Values.{good-width, zero-table, entries-of, refuses, made-or-full, check-table}
-use Rattle.lists.specs.WorkingLists.{all-below}
-use Rattle.terms.specs.Checks.{check-equation, if-read}
+use Rattle.conversion.specs.Conversion.{all-below}
+use Rattle.terms.specs.Checks.{check-equation, check-sides, if-read, Written, one-term, two-terms}
 use Rattle.operations.specs.declared.Side.{Side}
 use Rattle.operations.specs.declared.Side.the-variants.{Positive, Negative}
 
@@ -40,6 +41,17 @@ unfoldable pub equation-call : M.Side → Table → ℕ → List ℕ → Answere
 equation-call side t x ts =
     if-accepted (check-table t) (λ r. refuses r t) (if-read (check-equation (t .l) x ts) (λ r. refuses r t) (λ u.
     made-or-full (t .l) t (equation side (t .l) (record { left = x; right = u }) (entries-of t))))
+
+-- The terms of the tokens ss and ts set equal: 2, 3, 4; 7; 5, 6 of ss; 5, 6 of ts; 8.
+unfoldable pub unify-call : M.Side → Table → List ℕ → List ℕ → Answered
+unify-call side t ss ts =
+    if-accepted (check-table t) (λ r. refuses r t) (if-read (check-sides (t .l) ss ts) (λ r. refuses r t) (λ s.
+    made-or-full (t .l) t (unification side (t .l) s (entries-of t))))
+
+-- The call on an equation of either kind, written in tokens.
+unfoldable pub written-call : M.Side → Table → Written → Answered
+written-call side t (one-term x ts) = equation-call side t x ts
+written-call side t (two-terms ss ts) = unify-call side t ss ts
 
 -- The join of two tables of one side: 2, 3, 4 of the first, then of the second; 10; 8.
 unfoldable pub join-call : M.Side → Table → Table → Answered

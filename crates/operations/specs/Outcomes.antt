@@ -13,7 +13,9 @@ use Rattle.model.specs.Terms.{Term, var, variables}
 use Rattle.model.specs.Tables.{Side, positive, opposite, groups, kept}
 use Rattle.model.specs.Questions.{Equal}
 use Rattle.model.specs.Equations.{After}
-use Rattle.model.specs.Full.{ConvertFull, ChangeFull, EquationFull, JoinFull, ProjectionFull}
+use Rattle.model.specs.Walk.{Sides, walk-sides}
+use Rattle.model.specs.Unification.{AfterSides}
+use Rattle.model.specs.Full.{ConvertFull, ChangeFull, EquationFull, WalkFull, JoinFull, ProjectionFull}
 use Rattle.words.specs.Words.{set}
 use Rattle.tables.specs.declared.Table.{Table}
 use Rattle.tables.specs.declared.Refusal.{Refusal}
@@ -22,10 +24,10 @@ use Rattle.tables.specs.declared.Answer.the-variants.{Accepted, Refused}
 use Rattle.tables.specs.declared.Answered.{Answered}
 use Rattle.tables.specs.Refusals.{one-of}
 use Rattle.tables.specs.Values.{good-width, zero-table, entries-of, accepts, refuses, zero-past, check-table, GoodTable}
-use Rattle.lists.specs.WorkingLists.{all-below}
+use Rattle.conversion.specs.Conversion.{all-below}
 use Rattle.terms.specs.Checks as C
 use Rattle.operations.specs.Operations.{good-keep, convert-call, equation-call, join-call, projection-call}
-use Rattle.operations.specs.Operations.{change-side-call}
+use Rattle.operations.specs.Operations.{unify-call, change-side-call}
 
 -- What the type says of every table value: its arrays have 256 words.
 pub record TableValue (t : Table) : Type 0 where
@@ -120,6 +122,35 @@ abbrev pub EquationExclusive : Side → Table → ℕ → List ℕ → Type 0
 EquationExclusive side t x ts =
     Exclusive (2 ∷ 3 ∷ 4 ∷ 7 ∷ 5 ∷ 6 ∷ []) (EquationEarly t x ts) (EquationReady t x ts) (λ r. EquationNeeds side t x (r .term))
     (equation-call side t x ts)
+
+-- ---- Two terms
+
+-- The table's own refusals; then those of the two terms.
+abbrev pub UnifyEarly : Table → List ℕ → List ℕ → Refusal → Type 0
+UnifyEarly t ss ts r = (check-table t ≡ Refused r) ⊎ (GoodTable t × (C.check-sides (t .l) ss ts ≡ C.refuses r))
+
+-- The table is good and the tokens are two terms.
+pub record UnifyReady (t : Table) (ss ts : List ℕ) : Type 0 where
+  pub table : GoodTable t
+  pub sides : Sides
+  pub reads : C.check-sides (t .l) ss ts ≡ C.reads sides
+
+-- The walk of the two terms does not clash, and some list of one of the found equations needs entry 257.
+abbrev pub UnifyNeeds : Side → Table → Sides → Type 0
+UnifyNeeds side t s = WalkFull side (t .l) (walk-sides s) (entries-of t)
+
+-- Every answer of the call on two terms; the groups after it are those of the found equations in order, none after a clash.
+abbrev pub UnifyOutcome : Side → Table → List ℕ → List ℕ → Type 0
+UnifyOutcome side t ss ts =
+    Outcome t (UnifyEarly t ss ts) (UnifyReady t ss ts) (λ r. UnifyNeeds side t (r .sides))
+    (λ r. Becomes side (t .l) (AfterSides (r .sides) (groups-of side t)))
+    (unify-call side t ss ts)
+
+-- They exclude each other; the early refusals are 2, 3, 4, 7, 5 and 6.
+abbrev pub UnifyExclusive : Side → Table → List ℕ → List ℕ → Type 0
+UnifyExclusive side t ss ts =
+    Exclusive (2 ∷ 3 ∷ 4 ∷ 7 ∷ 5 ∷ 6 ∷ []) (UnifyEarly t ss ts) (UnifyReady t ss ts) (λ r. UnifyNeeds side t (r .sides))
+    (unify-call side t ss ts)
 
 -- ---- Join
 

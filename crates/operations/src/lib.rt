@@ -1,4 +1,5 @@
-// The operations on table values, of both sides: conversion, equation, join, projection and change of side.
+// The operations on table values, of both sides: conversion, equation, two terms set equal, join, projection and change of
+// side.
 // A refusal returns the table as given; of two tables, the first.
 use lists::Grown;
 use tables::Answer;
@@ -6,17 +7,25 @@ use tables::Answered;
 use tables::Refusal;
 use tables::Table;
 use terms::Checked;
+use walks::Found;
 ghost use mathlib.Core.Path.{_≡_};
+ghost use mathlib.Core.Bool.{true};
+ghost use mathlib.Core.List.{List};
+ghost use mathlib.Core.Option.{some};
 ghost use Prim.Native.Nat.{_≤_};
 ghost use lib.ListN.{length};
 ghost use Rattle.model.specs.Groups.{Bits};
 ghost use Rattle.model.specs.Growth.{Entries, limit};
 ghost use Rattle.model.specs.Tables.{equation-of-sets, join as join-lists, kept, projection};
+ghost use Rattle.model.specs.Equations.{Equation};
+ghost use Rattle.model.specs.Walk.{Walked};
+ghost use Rattle.model.specs.Unification.{no-groups, walk-entries};
 ghost use Rattle.words.specs.Words.{set-word};
 ghost use Rattle.lists.specs.WorkingLists.{Holds, Within, Makes};
-ghost use Rattle.tables.specs.Values.{refuses, made-or-full, GoodTable, entries-of};
+ghost use Rattle.tables.specs.Values.{accepts, refuses, made-or-full, good-width, GoodTable, table-of, entries-of};
 ghost use Rattle.procedures.specs.Parts.{OfSets};
-ghost use Rattle.operations.specs.Operations.{side-of, side-numbered, convert-call, equation-call, join-call};
+ghost use Rattle.walks.specs.Cursors.{Rest};
+ghost use Rattle.operations.specs.Operations.{side-of, side-numbered, convert-call, equation-call, unify-call, join-call};
 ghost use Rattle.operations.specs.Operations.{projection-call, change-side-call};
 
 // A table is positive or negative.
@@ -52,11 +61,11 @@ pub fn convert(l: u32, words: &[u32]) -> Answered
     if !tables::good_width(l) {
         return tables::refused(Refusal::Width);
     }
-    if !lists::conversion::all_below(l, words) {
+    if !conversion::all_below(l, words) {
         return tables::refused(Refusal::Stray);
     }
     let mut list = [0u64; 256];
-    let g = lists::conversion::convert(&mut list, l, words);
+    let g = conversion::convert(&mut list, l, words);
     lists::values::made_or_full(l, Table::zero(), g, &list)
 }
 
@@ -119,6 +128,93 @@ pub fn equation(side: Side, t: Table, x: u32, ts: &[u16]) -> Answered
     match tables::check(t) {
         Answer::Refused(r) => refused(r, t),
         Answer::Accepted => equation_checked(side, t, x, ts),
+    }
+}
+
+// The table of l variables that stands for no groups: empty where it is positive, all-star where it is negative.
+fn no_groups(side: Side, l: u32) -> Answered
+    requires { ⌜ good-width l ≡ true ⌝ }
+    ensures { λ r. ⌜ r ≡ accepts (table-of l (no-groups (side-of side) l)) ⌝ }
+{
+    match side {
+        Side::Positive => Table::empty(l),
+        Side::Negative => Table::all_star(l),
+    }
+}
+
+// The equations that the walk of two terms finds, applied in order to a checked table; the walk does not clash.
+fn apply_found(side: Side, t: Table, left: &[u16], right: &[u16]) -> Answered
+    requires { ⌜ GoodTable t × ((es : List Equation) × Rest (t .l) (now left) (now right) 0 0 (some es)) ⌝ }
+    ensures { λ r. ⌜
+        ((es : List Equation) → Rest (t .l) (now (left .entry)) (now (right .entry)) 0 0 (some es)
+        → r ≡ made-or-full (t .l) t (walk-entries (side-of side) (t .l) (some es) (entries-of t)))
+        ⌝ }
+{
+    let l = t.l;
+    let mut n = t.n;
+    let mut given = [0u64; 256];
+    lists::values::load(&t.care, &t.value, n, &mut given);
+    let mut at_left = 0;
+    let mut at_right = 0;
+    loop {
+        match walks::next(left, at_left, right, at_right) {
+            Found::Equation {
+                left: x,
+                right: y,
+                i,
+                j,
+            } => {
+                let mut list = [0u64; 256];
+                match equation_list(side, &given, n, l, x, y, &mut list) {
+                    Grown::Full => return refused(Refusal::Full, t),
+                    Grown::Count(k) => {
+                        given = list;
+                        n = k;
+                        at_left = i;
+                        at_right = j;
+                    }
+                }
+            }
+            // It does not clash.
+            Found::Clash => return refused(Refusal::Full, t),
+            Found::End => return lists::values::made_or_full(l, t, Grown::Count(n), &given),
+        }
+    }
+}
+
+// Two terms that were read, set equal, on a checked table: the walk is finished before any found equation is applied.
+fn unify_read(side: Side, t: Table, left: &[u16], right: &[u16]) -> Answered
+    requires { ⌜ GoodTable t × ((o : Walked) × Rest (t .l) (now left) (now right) 0 0 o) ⌝ }
+    ensures { λ r. ⌜
+        ((o : Walked) → Rest (t .l) (now (left .entry)) (now (right .entry)) 0 0 o
+        → r ≡ made-or-full (t .l) t (walk-entries (side-of side) (t .l) o (entries-of t)))
+        ⌝ }
+{
+    if walks::clashes(left, right) {
+        return no_groups(side, t.l);
+    }
+    apply_found(side, t, left, right)
+}
+
+// The terms of two rows of tokens set equal, on a checked table. Inner: not a public call.
+pub fn unify_checked(side: Side, t: Table, left: &[u16], right: &[u16]) -> Answered
+    requires { ⌜ GoodTable t ⌝ }
+    ensures { λ r. ⌜ r ≡ unify-call (side-of side) t (now (left .entry)) (now (right .entry)) ⌝ }
+{
+    let l = t.l;
+    match terms::check_sides(l, left, right) {
+        Answer::Refused(r) => refused(r, t),
+        Answer::Accepted => unify_read(side, t, left, right),
+    }
+}
+
+// The terms of two rows of tokens set equal.
+pub fn unify(side: Side, t: Table, left: &[u16], right: &[u16]) -> Answered
+    ensures { λ r. ⌜ r ≡ unify-call (side-of side) t (now (left .entry)) (now (right .entry)) ⌝ }
+{
+    match tables::check(t) {
+        Answer::Refused(r) => refused(r, t),
+        Answer::Accepted => unify_checked(side, t, left, right),
     }
 }
 
@@ -238,7 +334,7 @@ pub fn change_side(side: Side, t: Table) -> Answered
             let mut given = [0u64; 256];
             lists::values::load(&t.care, &t.value, n, &mut given);
             let mut list = [0u64; 256];
-            let g = procedures::sides::change_side(&given, n, l, &mut list);
+            let g = sides::change_side(&given, n, l, &mut list);
             lists::values::made_or_full(l, t, g, &list)
         }
     }

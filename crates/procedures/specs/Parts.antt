@@ -1,30 +1,15 @@
--- Parts of the procedures that the code has functions of its own for.
+-- Parts of the equation that the code has functions of its own for.
 use mathlib.Core.Path.{_≡_}
-use mathlib.Core.Bool.{cond}
-use mathlib.Core.List.{List, [], _∷_}
+use mathlib.Core.List.{List}
 use mathlib.Core.Option.{Option}
 use Prim.Native.Nat.{ℕ}
 use lib.ListN.{length}
 use Rattle.model.specs.Groups.{Bits}
-use Rattle.model.specs.Strings.{Trits, matches, zeros, pieces}
+use Rattle.model.specs.Strings.{zeros}
 use Rattle.model.specs.Growth.{_>>=_, Entries, grow}
 use Rattle.model.specs.Tables.{relevant, cross, close, change-side}
-use Rattle.model.specs.Widest.{fresh, append-all}
 use Rattle.words.specs.Words.{set-word}
 use Rattle.lists.specs.WorkingLists.{Holds}
-
--- ---- Change of side
-
--- The entries that match v, in order.
-unfoldable pub matched : Trits → Entries → Entries
-matched v [] = []
-matched v (y ∷ τ) = cond (matches y v) (y ∷ matched v τ) (matched v τ)
-
--- The pieces of y that v leaves and no entry of κ subsumes, the all-zero one left out, appended.
-unfoldable pub append-pieces : Entries → Trits → Entries → Trits → Option Entries
-append-pieces κ v τ y = append-all τ (fresh κ (pieces y v))
-
--- ---- Equations
 
 -- P of any list of strings of l positions that the array holds, and any two sets of l variables with the words mx and mt.
 abbrev pub OfSets : (l : ℕ) (list : List ℕ) (n mx mt : ℕ) → (Entries → Bits → Bits → Type 0) → Type 0

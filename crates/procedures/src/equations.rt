@@ -1,5 +1,5 @@
 // Abstract unification, of either side. Inner: not a public call.
-use crate::Pairing;
+use candidates::Pairing;
 use lists::Grown;
 ghost use mathlib.Core.Path.{_≡_};
 ghost use Prim.Native.Nat.{_≤_};
@@ -30,8 +30,8 @@ fn closed_cross(
         → Makes l (now (a .exit)) r (closed-cross α β))
         ⌝ }
 {
-    match crate::pairs::pairs(Pairing::Or, a, an, b, bn, l, c, row) {
-        Grown::Count(k) => crate::closing::close(c, k, l, a, row),
+    match candidates::pairs::pairs(Pairing::Or, a, an, b, bn, l, c, row) {
+        Grown::Count(k) => candidates::closing::close(c, k, l, a, row),
         Grown::Full => Grown::Full,
     }
 }
@@ -54,8 +54,8 @@ fn positive_closed_cross(
         ⌝ }
 {
     let mut b = [0u64; 256];
-    match crate::pairs::relevant(t, tn, l, mx, list, other, row) {
-        Grown::Count(an) => match crate::pairs::relevant(t, tn, l, mt, &mut b, other, row) {
+    match candidates::pairs::relevant(t, tn, l, mx, list, other, row) {
+        Grown::Count(an) => match candidates::pairs::relevant(t, tn, l, mt, &mut b, other, row) {
             Grown::Count(bn) => closed_cross(list, an, &b, bn, l, other, row),
             Grown::Full => Grown::Full,
         },
@@ -74,7 +74,7 @@ pub fn positive(t: &[u64; 256], tn: usize, l: u32, mx: u32, mt: u32, list: &mut 
     let mut crossed = [0u64; 256];
     let mut other = [0u64; 256];
     let mut row = [0u64; 256];
-    match crate::pairs::irrelevant(t, tn, l, mx | mt, list, &mut other, &mut row) {
+    match candidates::pairs::irrelevant(t, tn, l, mx | mt, list, &mut other, &mut row) {
         Grown::Count(n) => {
             match positive_closed_cross(t, tn, l, mx, mt, &mut crossed, &mut other, &mut row) {
                 Grown::Count(k) => lists::growth::grow_each(list, n, l, &crossed, k),
@@ -103,7 +103,7 @@ fn having(
 {
     *other = *t;
     match lists::growth::grow(other, tn, l, (m as u64) << 32) {
-        Grown::Count(n) => crate::sides::change_side(other, n, l, list),
+        Grown::Count(n) => sides::change_side(other, n, l, list),
         Grown::Full => Grown::Full,
     }
 }
@@ -129,7 +129,7 @@ fn negative_closed_cross(
     match having(t, tn, l, mx, &mut a, &mut other) {
         Grown::Count(an) => match having(t, tn, l, mt, &mut b, &mut other) {
             Grown::Count(bn) => match closed_cross(&mut a, an, &b, bn, l, &mut other, list) {
-                Grown::Count(n) => crate::sides::change_side(&a, n, l, list),
+                Grown::Count(n) => sides::change_side(&a, n, l, list),
                 Grown::Full => Grown::Full,
             },
             Grown::Full => Grown::Full,
@@ -154,7 +154,7 @@ fn lacking(
         → Makes l (now (list .exit)) r (grow-all τ (ones k)))
         ⌝ }
 {
-    let k = crate::rows::ones_row(m, l, row);
+    let k = candidates::rows::ones_row(m, l, row);
     *list = *t;
     lists::growth::grow_each(list, tn, l, row, k)
 }
@@ -173,7 +173,7 @@ pub fn negative(t: &[u64; 256], tn: usize, l: u32, mx: u32, mt: u32, list: &mut 
     match negative_closed_cross(t, tn, l, mx, mt, &mut crossed) {
         Grown::Count(k) => match lacking(t, tn, l, mx | mt, &mut others, &mut row) {
             Grown::Count(c) => {
-                crate::pairs::pairs(Pairing::Meet, &others, c, &crossed, k, l, list, &mut row)
+                candidates::pairs::pairs(Pairing::Meet, &others, c, &crossed, k, l, list, &mut row)
             }
             Grown::Full => Grown::Full,
         },

@@ -1,14 +1,4 @@
-// The procedures of 01 on working lists, of both sides. Inner: not a public call.
+// Equation, projection and join on working lists, of both sides. Inner: not a public call.
 // Where a result is full, nothing is said of the array lent for it. Arrays lent as room may hold anything before and after.
-pub mod rows; // rows of candidate strings, of one list and one string or set
-pub mod pairs; // cross and meets, and what stands on meets: relevant and irrelevant
-pub mod closing; // close
-pub mod sides; // change of side
 pub mod equations; // abstract unification
 pub mod projections; // projection and join
-
-// How two strings make a candidate: "a or b", or their meet where they match.
-pub enum Pairing {
-    Or,
-    Meet,
-}

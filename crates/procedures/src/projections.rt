@@ -1,5 +1,5 @@
 // Join and projection, of either side. Inner: not a public call.
-use crate::Pairing;
+use candidates::Pairing;
 use lists::Grown;
 ghost use mathlib.Core.Path.{_≡_};
 ghost use Prim.Native.Nat.{_≤_};
@@ -47,7 +47,7 @@ pub fn join_negative(
         ⌝ }
 {
     let mut row = [0u64; 256];
-    crate::pairs::pairs(Pairing::Meet, a, an, b, bn, l, list, &mut row)
+    candidates::pairs::pairs(Pairing::Meet, a, an, b, bn, l, list, &mut row)
 }
 
 // Projection, positive, onto the set keep: each string is cut and grown.
@@ -62,7 +62,7 @@ pub fn positive(t: &[u64; 256], tn: usize, keep: u32, list: &mut [u64; 256]) -> 
     // As a slice its length is known.
     let whole: &[u64] = &*list;
     let mut row = [0u64; 256];
-    crate::rows::cut_row(t, tn, keep, &mut row);
+    candidates::rows::cut_row(t, tn, keep, &mut row);
     lists::growth::grow_each(list, 0, u32::count_ones(keep), &row, tn)
 }
 
@@ -76,9 +76,9 @@ pub fn negative(t: &[u64; 256], tn: usize, l: u32, keep: u32, list: &mut [u64; 2
         ⌝ }
 {
     let mut other = [0u64; 256];
-    match crate::sides::change_side(t, tn, l, list) {
+    match sides::change_side(t, tn, l, list) {
         Grown::Count(n) => match positive(list, n, keep, &mut other) {
-            Grown::Count(k) => crate::sides::change_side(&other, k, u32::count_ones(keep), list),
+            Grown::Count(k) => sides::change_side(&other, k, u32::count_ones(keep), list),
             Grown::Full => Grown::Full,
         },
         Grown::Full => Grown::Full,

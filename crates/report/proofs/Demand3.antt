@@ -19,7 +19,8 @@ use Rattle.operations.specs.Operations.{side-numbered}
 use Rattle.forms.specs.declared.Layout.the-variants.{Plain}
 use Rattle.forms.specs.declared.Extent.the-variants.{Front}
 use Rattle.forms.specs.TableForms.{read-table}
-use Rattle.forms.specs.EquationForms.{equations-in, check-equations}
+use Rattle.equation_forms.specs.declared.Left.the-variants.{Variable}
+use Rattle.equation_forms.specs.EquationForms.{equations-in, check-equations}
 use Rattle.forms.proofs.Reading.{read-good}
 use Rattle.running.specs.declared.Running.{Running}
 use Rattle.running.specs.States.{none-applied, run-from, run-on}
@@ -47,14 +48,14 @@ reported-state s text out other = go (fits-in text out) (eqb (s .code) 0) other
 -- Of an input that passes its checks, whatever the output: unless the report is refused 9, real bindings that the table read
 -- describes are, after the equations that the run applied, described by the table of the state that it returns.
 pub report-described : (input out : List ℕ) (t : Table) → length input ≤ most-input → read-table Front input ≡ accepts t
-    → check-equations (t .l) (after-table input) ≡ Accepted
+    → check-equations Variable (t .l) (after-table input) ≡ Accepted
     → (report-of input out .state .code ≡ refusal-number R.Narrow → ⊥)
     → (θ θ′ : Bindings) → Describes (groups-of positive t) θ
-    → Reaches θ (run-events (t .l) (report-of input out .state .applied) (equations-in (after-table input))) θ′
+    → Reaches θ (run-events (t .l) (report-of input out .state .applied) (equations-in Variable (after-table input))) θ′
     → GoodTable (report-of input out .state .table) × Describes (groups-of positive (report-of input out .state .table)) θ′
 unfolding input-run run-on if-accepted side-numbered
 report-described input out t few reads checked other θ θ′ d r =
-    let ws = equations-in (after-table input) in
+    let ws = equations-in Variable (after-table input) in
     let run : input-run input ≡ run-from 0 t 0 ws = rw (le-leb (length input) most-input few, reads, checked) in
     let is : report-of input out .state ≡ run-from 0 t 0 ws = reported-state (input-run input) (input-text input) out other
     ∙ run in

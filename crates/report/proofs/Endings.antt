@@ -19,17 +19,19 @@ use Rattle.tables.specs.declared.Answered.{Answered}
 use Rattle.tables.specs.Refusals.{refusal-number, if-accepted, member, one-of}
 use Rattle.tables.specs.Values.{accepts, GoodTable}
 use Rattle.tables.proofs.Numbers.{within, one-of-more, at-most, number-most}
-use Rattle.operations.specs.Operations.{side-numbered}
+use Rattle.terms.specs.Checks.{Written}
+use Rattle.operations.specs.Operations.{side-numbered, written-call}
 use Rattle.forms.specs.declared.Layout.the-variants.{Plain}
 use Rattle.forms.specs.declared.Extent.the-variants.{Front}
 use Rattle.forms.specs.TableForms.{read-table}
-use Rattle.forms.specs.EquationForms.{Written, check-each}
-use Rattle.forms.specs.EquationForms.{check-equations}
-use Rattle.forms.proofs.Tests.{equations-passed}
+use Rattle.equation_forms.specs.declared.Left.the-variants.{Variable}
+use Rattle.equation_forms.specs.EquationForms.{check-each, check-equations}
+use Rattle.equation_forms.proofs.Tests.{equations-passed}
 use Rattle.forms.proofs.Reading.{read-good}
-use Rattle.forms.proofs.Numbers.{read-numbers, equations-numbers}
+use Rattle.forms.proofs.Numbers.{read-numbers}
+use Rattle.equation_forms.proofs.Numbers.{equations-numbers}
 use Rattle.running.specs.declared.Running.{Running}
-use Rattle.running.specs.States.{state, written-call, none-applied, run-from}
+use Rattle.running.specs.States.{state, none-applied, run-from}
 use Rattle.demands.proofs.Ends.{first-accepted, first-refused}
 use Rattle.text.proofs.Writing.{decimal-most}
 use Rattle.text.specs.declared.Reported.{Reported}
@@ -178,7 +180,7 @@ module _ (input : List ℕ) where
   refused-numbers (long over) = tt
   refused-numbers (unread {r} few e) = one-of-more (1 ∷ 2 ∷ 3 ∷ 4 ∷ []) early-numbers r tt (read-numbers Plain Front input r e)
   refused-numbers (unchecked {r} {t} few reads c) =
-      one-of-more (1 ∷ 7 ∷ 6 ∷ 5 ∷ []) early-numbers r tt (equations-numbers (t .l) (after-table input) r c)
+      one-of-more (1 ∷ 7 ∷ 6 ∷ 5 ∷ []) early-numbers r tt (equations-numbers Variable (t .l) (after-table input) r c)
 
   -- An input that is refused does not pass its checks.
   pub refused-not-good : {r : Refusal} {t : Table} → InputRefused input r → InputGood input t → ⊥
@@ -189,7 +191,7 @@ module _ (input : List ℕ) where
   refused-not-good {t = t} (unchecked {t = u} few reads c) good =
       let same : u ≡ t = ap (λ (a : Answered). a .table) (sym reads ∙ good .reads) in
       let checked = good .checked in
-      let both : check-equations (u .l) (after-table input) ≡ Accepted = rw same checked in
+      let both : check-equations Variable (u .l) (after-table input) ≡ Accepted = rw same checked in
       absurd (let z : _≡_ {A = ℕ} 0 1 = cc in omega arith)
 
   -- every input is one or the other
@@ -203,7 +205,7 @@ module _ (input : List ℕ) where
       t : Table
       t = read-table Front input .table
 
-      by-checks : (c : Answer) → check-equations (t .l) (after-table input) ≡ c → length input ≤ most-input
+      by-checks : (c : Answer) → check-equations Variable (t .l) (after-table input) ≡ c → length input ≤ most-input
           → read-table Front input ≡ accepts t → Sorted
       by-checks (Refused r) c few reads = bad (unchecked few reads c)
       by-checks Accepted c few reads = good (record { few = few; reads = reads; checked = c })
@@ -211,7 +213,7 @@ module _ (input : List ℕ) where
       by-table : (a : Answer) → read-table Front input .answer ≡ a → length input ≤ most-input → Sorted
       by-table (Refused r) e few = bad (unread few e)
       by-table Accepted e few =
-          by-checks (check-equations (t .l) (after-table input)) refl few (λ i. record { answer = e i; table = t })
+          by-checks (check-equations Variable (t .l) (after-table input)) refl few (λ i. record { answer = e i; table = t })
 
       by-length : (b : Bool) → leb (length input) most-input ≡ b → Sorted
       by-length true e = by-table (read-table Front input .answer) refl (leb-true (length input) most-input e)
@@ -231,7 +233,7 @@ module _ (input : List ℕ) where
       go : Sorted → Ending input
       go (bad r) = early r (refused-ends r .0) (refused-ends r .1)
       go (good {t} g) =
-          let passed = equations-passed (t .l) (after-table input) (g .checked) in
+          let passed = equations-passed Variable (t .l) (after-table input) (g .checked) in
           by g (course (input-equations input) t (read-good Plain Front input t (g .reads) .0) (passed .each))
 
   -- ---- What is returned, and what is written
@@ -245,7 +247,7 @@ module _ (input : List ℕ) where
           let n = refusal-number r in
           rw (refused-ends h .1) (omega (arith, refused-length n, decimal-most n))
       go (good {t} g) =
-          let passed = equations-passed (t .l) (after-table input) (g .checked) in
+          let passed = equations-passed Variable (t .l) (after-table input) (g .checked) in
           rw (good-ends g .1)
           (run-most t (after-table input) (read-good Plain Front input t (g .reads) .0) (passed .sizes))
 

@@ -16,7 +16,8 @@ use Rattle.tables.specs.Values.{accepts, GoodTable}
 use Rattle.forms.specs.declared.Layout.the-variants.{Plain}
 use Rattle.forms.specs.declared.Extent.the-variants.{Front}
 use Rattle.forms.specs.TableForms.{second-size, table-length, fits, read-table}
-use Rattle.forms.specs.EquationForms.{equations-in, check-equations}
+use Rattle.equation_forms.specs.declared.Left.the-variants.{Variable}
+use Rattle.equation_forms.specs.EquationForms.{equations-in, check-equations}
 use Rattle.forms.proofs.Tests.{reads-passed}
 use Rattle.forms.proofs.Reading.{read-good}
 use Rattle.running.specs.declared.Running.{Running}
@@ -61,14 +62,15 @@ module _ (s : Running) (text out : List ℕ) {out₁ : List ℕ} (measured : out
 
 module _ (t : Table) (q : List ℕ) where
   -- Equations that do not pass their checks: only the number is reported.
-  pub rest-refused : {r : Refusal} → check-equations (t .l) q ≡ Refused r
-      → (none-applied (refusal-number r) 0 ≡ run-on 0 t q) × (refused-text (refusal-number r) ≡ rest-text t q)
+  pub rest-refused : {r : Refusal} → check-equations Variable (t .l) q ≡ Refused r
+      → (none-applied (refusal-number r) 0 ≡ run-on Variable 0 t q) × (refused-text (refusal-number r) ≡ rest-text t q)
   unfolding run-on rest-text if-accepted
   rest-refused e = (rw e, rw e)
 
   -- Else they are run.
-  pub rest-goes : check-equations (t .l) q ≡ Accepted
-      → (run-from 0 t 0 (equations-in q) ≡ run-on 0 t q) × (run-text t (equations-in q) ≡ rest-text t q)
+  pub rest-goes : check-equations Variable (t .l) q ≡ Accepted
+      → (run-from 0 t 0 (equations-in Variable q) ≡ run-on Variable 0 t q)
+      × (run-text t (equations-in Variable q) ≡ rest-text t q)
   unfolding run-on rest-text if-accepted
   rest-goes e = (rw e, rw e)
 
@@ -113,7 +115,7 @@ module _ (input : List ℕ) where
           (reads-passed Plain Front input (accepts (a .table)) refl reads .0 .long)
 
       -- Then the rest decides.
-      pub input-goes : (run-on 0 (a .table) (after-table input) ≡ input-run input)
+      pub input-goes : (run-on Variable 0 (a .table) (after-table input) ≡ input-run input)
           × (rest-text (a .table) (after-table input) ≡ input-text input)
       unfolding input-run input-text if-accepted
       input-goes =

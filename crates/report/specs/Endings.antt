@@ -13,8 +13,11 @@ use Rattle.tables.specs.Refusals.{refusal-number}
 use Rattle.tables.specs.Values.{accepts, refuses}
 use Rattle.forms.specs.declared.Extent.the-variants.{Front}
 use Rattle.forms.specs.TableForms.{read-table}
-use Rattle.forms.specs.EquationForms.{Written, equations-in, check-equations}
-use Rattle.running.specs.States.{state, written-call, none-applied}
+use Rattle.terms.specs.Checks.{Written}
+use Rattle.operations.specs.Operations.{written-call}
+use Rattle.equation_forms.specs.declared.Left.the-variants.{Variable}
+use Rattle.equation_forms.specs.EquationForms.{equations-in, check-equations}
+use Rattle.running.specs.States.{state, none-applied}
 use Rattle.text.specs.Text.{line}
 use Rattle.text.specs.Lines.{eq, refused, block, first-text}
 use Rattle.report.specs.Reports.{most-input, after-table, refused-text, input-text, input-run}
@@ -27,7 +30,7 @@ pub data InputRefused (input : List ℕ) : Refusal → Type 0 where
   long : most-input < length input → InputRefused input R.Torn
   unread : {r : Refusal} → length input ≤ most-input → read-table Front input .answer ≡ Refused r → InputRefused input r
   unchecked : {r : Refusal} {t : Table} → length input ≤ most-input → read-table Front input ≡ accepts t
-      → check-equations (t .l) (after-table input) ≡ Refused r → InputRefused input r
+      → check-equations Variable (t .l) (after-table input) ≡ Refused r → InputRefused input r
 
 -- The numbers by which it is refused then: 8 is not among them, nor 9.
 abbrev pub early-numbers : List ℕ
@@ -37,11 +40,11 @@ early-numbers = 1 ∷ 2 ∷ 3 ∷ 4 ∷ 5 ∷ 6 ∷ 7 ∷ []
 pub record InputGood (input : List ℕ) (t : Table) : Type 0 where
   pub few : length input ≤ most-input
   pub reads : read-table Front input ≡ accepts t
-  pub checked : check-equations (t .l) (after-table input) ≡ Accepted
+  pub checked : check-equations Variable (t .l) (after-table input) ≡ Accepted
 
 -- The equations of an input.
 abbrev pub input-equations : List ℕ → List Written
-input-equations input = equations-in (after-table input)
+input-equations input = equations-in Variable (after-table input)
 
 -- ---- The equations
 

@@ -10,7 +10,9 @@ use Rattle.tables.specs.declared.Refusal.the-variants as R
 use Rattle.tables.specs.Refusals.{refusal-number, if-accepted}
 use Rattle.forms.specs.declared.Extent.the-variants.{Front}
 use Rattle.forms.specs.TableForms.{second-size, table-length, read-table}
-use Rattle.forms.specs.EquationForms.{Written, equations-in, check-equations}
+use Rattle.terms.specs.Checks.{Written}
+use Rattle.equation_forms.specs.declared.Left.the-variants.{Variable}
+use Rattle.equation_forms.specs.EquationForms.{equations-in, check-equations}
 use Rattle.running.specs.declared.Running.{Running}
 use Rattle.running.specs.States.{none-applied, run-from, run-on}
 use Rattle.text.specs.declared.Reported.{Reported}
@@ -37,7 +39,8 @@ refused-text code = refused ++ (decimal code ++ (newline ∷ []))
 -- The text of a table that was read and the bytes after it.
 unfoldable pub rest-text : Table → List ℕ → List ℕ
 rest-text t q =
-    if-accepted (check-equations (t .l) q) (λ r. refused-text (refusal-number r)) (run-text t (equations-in q))
+    if-accepted (check-equations Variable (t .l) q) (λ r. refused-text (refusal-number r))
+    (run-text t (equations-in Variable q))
 
 -- The text of an input: above 4096 bytes is 1 before any other check; then the table, which more may follow; then the
 -- equations, which are exactly the rest.
@@ -55,7 +58,7 @@ unfoldable pub input-run : List ℕ → Running
 input-run input =
     let a = read-table Front input in
     cond (leb (length input) most-input)
-    (if-accepted (a .answer) (λ r. none-applied (refusal-number r) 0) (run-on 0 (a .table) (after-table input)))
+    (if-accepted (a .answer) (λ r. none-applied (refusal-number r) 0) (run-on Variable 0 (a .table) (after-table input)))
     (none-applied (refusal-number R.Torn) 0)
 
 -- ---- What is returned, and what is written
@@ -87,7 +90,7 @@ run-report t ws out = reported (run-from 0 t 0 ws) (run-text t ws) out
 
 -- What is returned of a table that was read and the bytes after it.
 abbrev pub rest-report : Table → List ℕ → List ℕ → Reported
-rest-report t q out = reported (run-on 0 t q) (rest-text t q) out
+rest-report t q out = reported (run-on Variable 0 t q) (rest-text t q) out
 
 -- What is returned of an input.
 abbrev pub report-of : List ℕ → List ℕ → Reported

@@ -1,4 +1,5 @@
 // The report of an input: a positive table and equations, run, and written as text into a lent output.
+use equation_forms::Left;
 use forms::Extent;
 use running::Running;
 use tables::Answer;
@@ -9,7 +10,8 @@ use text::Reported;
 ghost use mathlib.Core.Path.{_≡_};
 ghost use Rattle.tables.specs.Refusals.{refusal-number};
 ghost use Rattle.tables.specs.Values.{GoodTable};
-ghost use Rattle.forms.specs.EquationForms.{equations-in, GoodSizes};
+ghost use Rattle.equation_forms.specs.declared.Left.the-variants.{Variable};
+ghost use Rattle.equation_forms.specs.EquationForms.{equations-in, GoodSizes};
 ghost use Rattle.text.specs.RunTexts.{run-text};
 ghost use Rattle.report.specs.Reports.{refused-text, narrowed, fitted, refused-report, run-report, rest-report};
 ghost use Rattle.report.specs.Reports.{rest-text, report-of, report-bytes};
@@ -36,9 +38,11 @@ fn narrowed(s: Running) -> Running
 
 // Runs, and writes its text where that fits; else nothing is written.
 fn write_fitting(t: Table, q: &[u8], out: &mut [u8]) -> Reported
-    requires { ⌜ GoodSizes (now q) × GoodTable t ⌝ }
-    ensures answer { λ r. ⌜ r ≡ run-report t (equations-in (now (q .entry))) (now (out .entry)) ⌝ }
-    ensures bytes { λ r. ⌜ now (out .exit) ≡ fitted (run-text t (equations-in (now (q .entry)))) (now (out .entry)) ⌝ }
+    requires { ⌜ GoodSizes Variable (now q) × GoodTable t ⌝ }
+    ensures answer { λ r. ⌜ r ≡ run-report t (equations-in Variable (now (q .entry))) (now (out .entry)) ⌝ }
+    ensures bytes { λ r. ⌜
+        now (out .exit) ≡ fitted (run-text t (equations-in Variable (now (q .entry)))) (now (out .entry))
+        ⌝ }
 {
     if TEXT <= out.len() {
         return text::runs::write_run(Pass::Write, t, q, out);
@@ -85,7 +89,7 @@ fn report_rest(t: Table, q: &[u8], out: &mut [u8]) -> Reported
     ensures bytes { λ r. ⌜ now (out .exit) ≡ fitted (rest-text t (now (q .entry))) (now (out .entry)) ⌝ }
 {
     let l = t.l;
-    match forms::equations::check(l, q) {
+    match equation_forms::check(Left::Variable, l, q) {
         Answer::Refused(r) => refuse(r, out),
         Answer::Accepted => write_fitting(t, q, out),
     }

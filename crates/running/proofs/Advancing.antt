@@ -1,30 +1,37 @@
 -- One equation of the running analysis: the number that it returns, and the state after it. Assumes nothing.
-use mathlib.Core.Path.{_≡_, refl, ap, _∙_}
-use mathlib.Core.List.{List}
-use Prim.Native.Nat.{ℕ}
-use Rattle.model.specs.Tables.{Side}
+use mathlib.Core.Path.{_≡_, refl, _∙_}
 use Rattle.tables.specs.declared.Refusal.{Refusal}
 use Rattle.tables.specs.declared.Answer.the-variants.{Accepted, Refused}
 use Rattle.tables.specs.declared.Answered.{Answered}
-use Rattle.tables.specs.Refusals.{refusal-number, if-accepted}
+use Rattle.tables.specs.Refusals.{refusal-number, answer-number, if-accepted}
+use Rattle.terms.specs.Checks.{Written}
+use Rattle.model.specs.Tables.{Side}
 use Rattle.operations.specs.Operations.{side-numbered}
-use Rattle.byte_calls.specs.ByteCalls.{term-call}
+use Rattle.byte_calls.specs.ByteCalls.{value-call}
 use Rattle.running.specs.declared.Running.{Running}
-use Rattle.running.specs.States.{state, one-more, step-answered, step-number, after-answer, advanced}
+use Rattle.running.specs.declared.Stepped.{Stepped}
+use Rattle.running.specs.States.{state, one-more, step-number, after-answer, advanced}
 
-module _ (s : Running) (x : ℕ) (term : List ℕ) {side : Side} (e : side ≡ side-numbered (s .side)) {a : Answered}
-    (is : a ≡ term-call side (s .table) x term) where
-  answered : a ≡ step-answered s x term
-  answered = is ∙ ap (λ (d : Side). term-call d (s .table) x term) e
+-- What a step gives of an answer: its number, and the state after it.
+abbrev pub Follows : Running → Answered → Stepped → Type 0
+Follows s a r = (r .number ≡ answer-number (a .answer)) × (r .state ≡ after-answer s a)
 
+module _ (s : Running) (a : Answered) where
   -- Where it is refused.
-  pub advance-refused : {r : Refusal} → a .answer ≡ Refused r
-      → (refusal-number r ≡ step-number s x term) × (s ≡ advanced s x term)
-  unfolding step-number advanced after-answer if-accepted
-  advance-refused f = rw (← answered, f) (refl, refl)
+  pub follows-refused : {r : Refusal} → a .answer ≡ Refused r
+      → (refusal-number r ≡ answer-number (a .answer)) × (s ≡ after-answer s a)
+  unfolding after-answer if-accepted
+  follows-refused f = rw f (refl, refl)
 
   -- Where it is accepted.
-  pub advance-accepted : a .answer ≡ Accepted
-      → (0 ≡ step-number s x term) × (state 0 (s .side) (one-more (s .applied)) (a .table) ≡ advanced s x term)
-  unfolding step-number advanced after-answer if-accepted
-  advance-accepted f = rw (← answered, f) (refl, refl)
+  pub follows-accepted : a .answer ≡ Accepted
+      → (0 ≡ answer-number (a .answer)) × (state 0 (s .side) (one-more (s .applied)) (a .table) ≡ after-answer s a)
+  unfolding after-answer if-accepted
+  follows-accepted f = rw f (refl, refl)
+
+-- What follows the answer to an equation is the step with it.
+pub follows-step : (s : Running) (w : Written) {side : Side} → side ≡ side-numbered (s .side) → {a : Answered}
+    → a ≡ value-call side (s .table) w → {r : Stepped} → Follows s a r
+    → (r .number ≡ step-number s w) × (r .state ≡ advanced s w)
+unfolding step-number advanced
+follows-step s w same is h = (h .0 ∙ rw (is, same), h .1 ∙ rw (is, same))

@@ -10,8 +10,9 @@ use Rattle.tables.specs.Values.{accepts}
 use Rattle.tables.proofs.Checking.{width-most}
 use Rattle.forms.specs.declared.Layout.the-variants.{Plain}
 use Rattle.forms.specs.declared.Extent.the-variants.{Whole}
+use Rattle.equation_forms.specs.declared.Left.{Left}
 use Rattle.forms.specs.TableForms.{read-table}
-use Rattle.forms.specs.EquationForms.{equations-in, check-equations}
+use Rattle.equation_forms.specs.EquationForms.{equations-in, check-equations}
 use Rattle.forms.proofs.Reading.{read-good}
 use Rattle.running.specs.States.{none-applied, run-from, run-on, run-state}
 
@@ -21,27 +22,27 @@ read-few b {a} is e =
     let good : a ≡ accepts (a .table) = λ i. record { answer = e i; table = a .table } in
     width-most (a .table .l) (read-good Plain Whole b (a .table) (sym is ∙ good) .0 .width)
 
-module _ (side : ℕ) (b q : List ℕ) {a : Answered} (is : a ≡ read-table Whole b) where
+module _ (f : Left) (side : ℕ) (b q : List ℕ) {a : Answered} (is : a ≡ read-table Whole b) where
   -- the run, from what was read
-  as-read : if-accepted (a .answer) (λ r. none-applied (refusal-number r) side) (run-on side (a .table) q)
-      ≡ run-state side b q
+  as-read : if-accepted (a .answer) (λ r. none-applied (refusal-number r) side) (run-on f side (a .table) q)
+      ≡ run-state f side b q
   unfolding run-state
   as-read = rw is
 
   -- A table that does not read.
-  pub run-unread : {r : Refusal} → a .answer ≡ Refused r → none-applied (refusal-number r) side ≡ run-state side b q
+  pub run-unread : {r : Refusal} → a .answer ≡ Refused r → none-applied (refusal-number r) side ≡ run-state f side b q
   unfolding if-accepted
-  run-unread f = let g = as-read in rw f at g
+  run-unread e = let g = as-read in rw e at g
 
   module _ (good : a .answer ≡ Accepted) where
     -- Equations that do not pass their checks.
-    pub run-unchecked : {r : Refusal} → check-equations (a .table .l) q ≡ Refused r
-        → none-applied (refusal-number r) side ≡ run-state side b q
+    pub run-unchecked : {r : Refusal} → check-equations f (a .table .l) q ≡ Refused r
+        → none-applied (refusal-number r) side ≡ run-state f side b q
     unfolding if-accepted run-on
-    run-unchecked f = let g = as-read in rw (good, f) at g
+    run-unchecked e = let g = as-read in rw (good, e) at g
 
     -- The whole input passes its checks.
-    pub run-goes : check-equations (a .table .l) q ≡ Accepted
-        → run-from side (a .table) 0 (equations-in q) ≡ run-state side b q
+    pub run-goes : check-equations f (a .table .l) q ≡ Accepted
+        → run-from side (a .table) 0 (equations-in f q) ≡ run-state f side b q
     unfolding if-accepted run-on
-    run-goes f = let g = as-read in rw (good, f) at g
+    run-goes e = let g = as-read in rw (good, e) at g

@@ -4,16 +4,17 @@ use mathlib.Core.List.{List, [], _∷_}
 use Prim.Native.Nat.{ℕ, _+_}
 use lib.Dec.{ltb}
 use lib.ListN.{length}
-use Rattle.model.specs.Tables.{Side}
 use Rattle.tables.specs.declared.Table.{Table}
 use Rattle.tables.specs.declared.Answered.{Answered}
 use Rattle.tables.specs.Refusals.{refusal-number, answer-number, if-accepted}
 use Rattle.tables.specs.Values.{zero-table}
-use Rattle.operations.specs.Operations.{side-numbered, equation-call}
+use Rattle.terms.specs.Checks.{Written}
+use Rattle.operations.specs.Operations.{side-numbered, written-call}
 use Rattle.forms.specs.declared.Extent.the-variants.{Whole}
 use Rattle.forms.specs.TableForms.{read-table, table-form, write-answer, written}
-use Rattle.forms.specs.EquationForms.{Written, equations-in, check-equations}
-use Rattle.byte_calls.specs.ByteCalls.{term-call}
+use Rattle.equation_forms.specs.declared.Left.{Left}
+use Rattle.equation_forms.specs.EquationForms.{equations-in, check-equations}
+use Rattle.byte_calls.specs.ByteCalls.{value-call}
 use Rattle.running.specs.declared.Running.{Running}
 
 -- A state: the answer of the call that last wrote it, the side as it was given, the number of accepted equations, the table.
@@ -34,13 +35,13 @@ most-applied = 4294967295
 unfoldable pub one-more : ℕ → ℕ
 one-more k = cond (ltb k most-applied) (k + 1) k
 
--- What is answered to one equation, with its term as bytes.
-abbrev pub step-answered : Running → ℕ → List ℕ → Answered
-step-answered s x term = term-call (side-numbered (s .side)) (s .table) x term
+-- What is answered to one equation of either kind, written in bytes.
+abbrev pub step-answered : Running → Written → Answered
+step-answered s w = value-call (side-numbered (s .side)) (s .table) w
 
 -- The number that a step returns.
-unfoldable pub step-number : Running → ℕ → List ℕ → ℕ
-step-number s x term = answer-number (step-answered s x term .answer)
+unfoldable pub step-number : Running → Written → ℕ
+step-number s w = answer-number (step-answered s w .answer)
 
 -- The state after an answer to an equation: a refusal leaves the whole state as it was; else `code` is 0, one more equation
 -- is counted, and the table is the one after it.
@@ -48,14 +49,10 @@ unfoldable pub after-answer : Running → Answered → Running
 after-answer s a = if-accepted (a .answer) (λ r. s) (state 0 (s .side) (one-more (s .applied)) (a .table))
 
 -- The state after one equation.
-unfoldable pub advanced : Running → ℕ → List ℕ → Running
-advanced s x term = after-answer s (step-answered s x term)
+unfoldable pub advanced : Running → Written → Running
+advanced s w = after-answer s (step-answered s w)
 
 -- ---- The run
-
--- What is answered to a written equation.
-abbrev pub written-call : Side → Table → Written → Answered
-written-call side t w = equation-call side t (w .left) (w .tokens)
 
 -- A run that applied none, with a table all zero.
 abbrev pub none-applied : ℕ → ℕ → Running
@@ -69,16 +66,18 @@ run-from side t k (w ∷ ws) =
     let a = written-call (side-numbered side) t w in
     if-accepted (a .answer) (λ r. state (refusal-number r) side k (a .table)) (run-from side (a .table) (k + 1) ws)
 
--- A run of a table that was read and the bytes of equations: all are checked first, and a refusal by then has applied none.
-unfoldable pub run-on : ℕ → Table → List ℕ → Running
-run-on side t q =
-    if-accepted (check-equations (t .l) q) (λ r. none-applied (refusal-number r) side) (run-from side t 0 (equations-in q))
+-- A run of a table that was read and the bytes of equations in either form: all are checked first, and a refusal by then has
+-- applied none.
+unfoldable pub run-on : Left → ℕ → Table → List ℕ → Running
+run-on f side t q =
+    if-accepted (check-equations f (t .l) q) (λ r. none-applied (refusal-number r) side)
+    (run-from side t 0 (equations-in f q))
 
 -- A run: the table is read, then all equations are checked; a refusal by then has applied none.
-unfoldable pub run-state : ℕ → List ℕ → List ℕ → Running
-run-state side b q =
+unfoldable pub run-state : Left → ℕ → List ℕ → List ℕ → Running
+run-state f side b q =
     let a = read-table Whole b in
-    if-accepted (a .answer) (λ r. none-applied (refusal-number r) side) (run-on side (a .table) q)
+    if-accepted (a .answer) (λ r. none-applied (refusal-number r) side) (run-on f side (a .table) q)
 
 -- ---- Writing the table of a state
 

@@ -1,5 +1,6 @@
 // The running analysis and the run, on states by value. Inner: not a public call.
-use forms::Cursor;
+use equation_forms::Cursor;
+use equation_forms::Left;
 use forms::Extent;
 use operations::Side;
 use tables::Answer;
@@ -7,9 +8,11 @@ use tables::Answered;
 use tables::Table;
 ghost use mathlib.Core.Path.{_≡_};
 ghost use Prim.Native.Nat.{_≤_};
-ghost use Rattle.operations.specs.Operations.{side-of};
-ghost use Rattle.forms.specs.EquationForms.{most-equations, equations-in, GoodSizes, On, Here, this};
-ghost use Rattle.running.specs.States.{state, one-more, started, step-number, advanced, written-call, none-applied};
+ghost use Rattle.tables.specs.Refusals.{answer-number};
+ghost use Rattle.terms.specs.Checks.{one-term, two-terms};
+ghost use Rattle.operations.specs.Operations.{side-of, written-call};
+ghost use Rattle.equation_forms.specs.EquationForms.{most-equations, equations-in, GoodSizes, On, Here, this};
+ghost use Rattle.running.specs.States.{state, one-more, started, step-number, after-answer, advanced, none-applied};
 ghost use Rattle.running.specs.States.{run-from, run-state, state-number, state-bytes};
 
 // A running analysis: the answer of the call that last wrote it, the side as it was given, how many equations were accepted,
@@ -56,19 +59,12 @@ pub struct Stepped {
     pub state: Running,
 }
 
-// The equation Xx = the term of the bytes, on a state: a refusal leaves the whole state as it was.
-pub fn advance(s: Running, x: u32, term: &[u8]) -> Stepped
-    ensures { λ r. ⌜
-        (r .number ≡ step-number s x (now (term .entry))) × (r .state ≡ advanced s x (now (term .entry)))
-        ⌝ }
+// The state after an answer to an equation: a refusal leaves the whole state as it was.
+fn answered(s: Running, a: Answered) -> Stepped
+    ensures { λ r. ⌜ (r .number ≡ answer-number (a .answer)) × (r .state ≡ after-answer s a) ⌝ }
 {
-    let t = s.table;
-    let number = s.side;
-    let k = s.applied;
-    let side = operations::side_numbered(number);
-    let a = byte_calls::equation_term(side, t, x, term);
     let answer = a.answer;
-    let u = a.table;
+    let t = a.table;
     match answer {
         Answer::Refused(r) => Stepped {
             number: tables::refusal_number(r),
@@ -78,12 +74,36 @@ pub fn advance(s: Running, x: u32, term: &[u8]) -> Stepped
             number: 0,
             state: Running {
                 code: 0,
-                side: number,
-                applied: one_more(k),
-                table: u,
+                side: s.side,
+                applied: one_more(s.applied),
+                table: t,
             },
         },
     }
+}
+
+// The equation Xx = the term of the bytes, on a state.
+pub fn advance(s: Running, x: u32, term: &[u8]) -> Stepped
+    ensures { λ r. ⌜
+        (r .number ≡ step-number s (one-term x (now (term .entry))))
+        × (r .state ≡ advanced s (one-term x (now (term .entry))))
+        ⌝ }
+{
+    let side = operations::side_numbered(s.side);
+    let t = s.table;
+    answered(s, byte_calls::equation_term(side, t, x, term))
+}
+
+// The terms of two rows of bytes set equal, on a state.
+pub fn unify(s: Running, left: &[u8], right: &[u8]) -> Stepped
+    ensures { λ r. ⌜
+        (r .number ≡ step-number s (two-terms (now (left .entry)) (now (right .entry))))
+        × (r .state ≡ advanced s (two-terms (now (left .entry)) (now (right .entry))))
+        ⌝ }
+{
+    let side = operations::side_numbered(s.side);
+    let t = s.table;
+    answered(s, byte_calls::unify_terms(side, t, left, right))
 }
 
 // The state of a run that stopped after k equations.
@@ -107,25 +127,33 @@ pub fn refused(code: u32, side: u32) -> Running
 }
 
 // The equation at a place of a form, on a table value.
-pub fn step(side: Side, t: Table, c: Cursor, q: &[u8]) -> Answered
-    requires { ⌜ On c (now q) × Here c ⌝ }
-    ensures { λ r. ⌜ r ≡ written-call (side-of side) t (this c (now (q .entry))) ⌝ }
+pub fn step(f: Left, side: Side, t: Table, c: Cursor, q: &[u8]) -> Answered
+    requires { ⌜ On f c (now q) × Here c ⌝ }
+    ensures { λ r. ⌜ r ≡ written-call (side-of side) t (this f c (now (q .entry))) ⌝ }
 {
-    let x = forms::equations::left(c, q);
-    let term = forms::equations::term(c, q);
-    byte_calls::equation_term(side, t, x, term)
+    let x = equation_forms::left_number(c, q);
+    let tokens = equation_forms::tokens(f, c, q);
+    match f {
+        Left::Variable => byte_calls::equation_term(side, t, x, tokens),
+        Left::Term => {
+            let k = 2 * (x as usize);
+            let left_part = &tokens[..k];
+            let right_part = &tokens[k..];
+            byte_calls::unify_terms(side, t, left_part, right_part)
+        }
+    }
 }
 
 // Applies equations that were checked, in order, up to the first that is full.
-fn apply(side: u32, t: Table, q: &[u8]) -> Running
-    requires { ⌜ GoodSizes (now q) ⌝ }
-    ensures { λ r. ⌜ r ≡ run-from side t 0 (equations-in (now (q .entry))) ⌝ }
+fn apply(f: Left, side: u32, t: Table, q: &[u8]) -> Running
+    requires { ⌜ GoodSizes f (now q) ⌝ }
+    ensures { λ r. ⌜ r ≡ run-from side t 0 (equations-in f (now (q .entry))) ⌝ }
 {
     let s = operations::side_numbered(side);
     let mut u = t;
-    let mut c = forms::equations::first(q);
-    while forms::equations::more(c) {
-        let a = step(s, u, c, q);
+    let mut c = equation_forms::first(q);
+    while equation_forms::more(c) {
+        let a = step(f, s, u, c, q);
         let answer = a.answer;
         let v = a.table;
         match answer {
@@ -134,7 +162,7 @@ fn apply(side: u32, t: Table, q: &[u8]) -> Running
             }
             Answer::Accepted => {
                 u = v;
-                c = forms::equations::next(c, q);
+                c = equation_forms::next(f, c, q);
             }
         }
     }
@@ -142,8 +170,8 @@ fn apply(side: u32, t: Table, q: &[u8]) -> Running
 }
 
 // A run of the equations of the bytes q on the table of the bytes b: the whole input is checked first.
-pub fn run(side: u32, b: &[u8], q: &[u8]) -> Running
-    ensures { λ r. ⌜ r ≡ run-state side (now (b .entry)) (now (q .entry)) ⌝ }
+pub fn run(f: Left, side: u32, b: &[u8], q: &[u8]) -> Running
+    ensures { λ r. ⌜ r ≡ run-state f side (now (b .entry)) (now (q .entry)) ⌝ }
 {
     let read = forms::read_table(Extent::Whole, b);
     let answer = read.answer;
@@ -152,9 +180,9 @@ pub fn run(side: u32, b: &[u8], q: &[u8]) -> Running
         Answer::Refused(r) => refused(tables::refusal_number(r), side),
         Answer::Accepted => {
             let l = t.l;
-            match forms::equations::check(l, q) {
+            match equation_forms::check(f, l, q) {
                 Answer::Refused(r) => refused(tables::refusal_number(r), side),
-                Answer::Accepted => apply(side, t, q),
+                Answer::Accepted => apply(f, side, t, q),
             }
         }
     }

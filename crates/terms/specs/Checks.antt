@@ -1,16 +1,19 @@
--- The checks of an equation handed over by itself (01, "Terms" and "Refusals").
+-- The checks of an equation handed over by itself (01, "Terms" and "Refusals"; 02, request 2).
 use mathlib.Core.Bool.{Bool, true, not, _&&_, _||_, cond}
 use mathlib.Core.List.{List, [], _∷_}
 use mathlib.Core.Option.{Option, some, none}
-use Prim.Native.Nat.{ℕ, _-_, _^_}
+use Prim.Native.Nat.{ℕ, _+_, _-_, _^_}
 use lib.Bits.{bitOr}
 use lib.Dec.{leb}
 use lib.ListN.{length}
-use Rattle.model.specs.Terms.{Term, variables}
+use Rattle.model.specs.Terms.{Term, var, variables}
 use Rattle.model.specs.Tokens.{is-variable, named, Read, read-row, read-within, read-term, whole-term}
+use Rattle.model.specs.Walk.{Sides}
 use Rattle.words.specs.Words.{set-word}
 use Rattle.tables.specs.declared.Refusal.{Refusal}
 use Rattle.tables.specs.declared.Refusal.the-variants as R
+use Rattle.tables.specs.declared.Answer.{Answer}
+use Rattle.tables.specs.declared.Answer.the-variants as A
 use Rattle.terms.specs.declared.Reading.{Reading}
 use Rattle.terms.specs.declared.Reading.the-variants.{Used, NoTerm}
 use Rattle.terms.specs.declared.Checked.{Checked}
@@ -77,7 +80,31 @@ unfoldable pub check-equation : ℕ → ℕ → List ℕ → Outcome Term
 check-equation l x ts =
     cond (leb (length ts) most-tokens) (cond (named l x) (check-term l ts) (refuses R.Name)) (refuses R.Long)
 
--- What the code answers: of a term that was read, the word of its variables.
+-- The terms of an equation of two: more than 1024 tokens together (7), then the left side (5, 6), then the right (5, 6).
+unfoldable pub check-sides : ℕ → List ℕ → List ℕ → Outcome Sides
+check-sides l ss ts =
+    cond (leb (length ss + length ts) most-tokens)
+    (if-read (check-term l ss) refuses (λ s. if-read (check-term l ts) refuses (λ t. reads (record { left = s; right = t }))))
+    (refuses R.Long)
+
+-- An equation as it is written, in tokens or in bytes: a variable and a term, or two terms.
+pub data Written : Type 0 where
+  one-term : ℕ → List ℕ → Written
+  two-terms : List ℕ → List ℕ → Written
+
+-- The two sides of an equation that is written in tokens; a variable on the left is a term too.
+unfoldable pub check-written : ℕ → Written → Outcome Sides
+check-written l (one-term x ts) = if-read (check-equation l x ts) refuses (λ t. reads (record { left = var x; right = t }))
+check-written l (two-terms ss ts) = check-sides l ss ts
+
+-- ---- What the code answers
+
+-- Only whether the checks are passed.
+unfoldable pub check-answer : {A : Type 0} → Outcome A → Answer
+check-answer (reads a) = A.Accepted
+check-answer (refuses r) = A.Refused r
+
+-- Of a term that was read, the word of its variables.
 unfoldable pub checked : ℕ → Outcome Term → Checked
 checked l (reads t) = Variables (set-word (variables l t))
 checked l (refuses r) = Refused r

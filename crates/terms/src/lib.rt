@@ -1,17 +1,19 @@
 // Terms as rows of 16-bit tokens: the reader, and the checks of an equation. Inner: not a public call.
 // Each nested head costs one frame of `read_term` and one of `read_row`, each further argument one of `read_row`: at most 2
 // frames a token. The checks are made of at most 1024 tokens.
+use tables::Answer;
 use tables::Refusal;
 ghost use mathlib.Core.Path.{_≡_};
 ghost use mathlib.Core.Bool.{true};
 ghost use Prim.Native.Nat.{_≤_};
 ghost use Rattle.terms.specs.Checks.{parsed, parsed-row, all-named, word-of, check-term, check-equation, checked};
+ghost use Rattle.terms.specs.Checks.{check-sides, check-answer};
 
 // A token from here on, with the top bit 1, is a head; one below is the number of a variable.
-const FIRST_HEAD: u16 = 32768;
+pub const FIRST_HEAD: u16 = 32768;
 
 // The arity of a head is in its lowest 4 bits: it is one of so many.
-const ARITIES: u16 = 16;
+pub const ARITIES: u16 = 16;
 
 // The most tokens of an equation.
 const TOKENS: usize = 1024;
@@ -131,4 +133,24 @@ pub fn check_equation(l: u32, x: u32, ts: &[u16]) -> Checked
         return Checked::Refused(Refusal::Name);
     }
     check_term(l, ts)
+}
+
+// Two terms handed over by themselves: more than 1024 tokens together (7), then the left side (5, 6), then the right (5, 6).
+pub fn check_sides(l: u32, left: &[u16], right: &[u16]) -> Answer
+    requires { ⌜ l ≤ 32 ⌝ }
+    ensures { λ r. ⌜ r ≡ check-answer (check-sides l (now (left .entry)) (now (right .entry))) ⌝ }
+{
+    if TOKENS < left.len() {
+        return Answer::Refused(Refusal::Long);
+    }
+    if TOKENS - left.len() < right.len() {
+        return Answer::Refused(Refusal::Long);
+    }
+    match check_term(l, left) {
+        Checked::Refused(r) => Answer::Refused(r),
+        Checked::Variables(_) => match check_term(l, right) {
+            Checked::Refused(r) => Answer::Refused(r),
+            Checked::Variables(_) => Answer::Accepted,
+        },
+    }
 }

@@ -9,10 +9,13 @@ use Rattle.tables.specs.declared.Answer.{Answer}
 use Rattle.tables.specs.declared.Answer.the-variants.{Accepted, Refused}
 use Rattle.tables.specs.Refusals.{if-accepted}
 use Rattle.tables.specs.Values.{GoodTable}
+use Rattle.terms.specs.Checks.{Written}
+use Rattle.operations.specs.Operations.{written-call}
 use Rattle.codec.proofs.Laws.{length-numbers}
 use Rattle.forms.specs.TableForms.{first-size, second-size}
-use Rattle.forms.specs.EquationForms.{Written, lefts, counts, all-tokens, share-out, equations-of, equations-in, GoodSizes}
-use Rattle.running.specs.States.{written-call}
+use Rattle.equation_forms.specs.declared.Left.{Left}
+use Rattle.equation_forms.specs.declared.Left.the-variants.{Variable}
+use Rattle.equation_forms.specs.EquationForms.{lefts, counts, all-tokens, span, share-out, equations-of, equations-in, GoodSizes}
 use Rattle.text.specs.Lines.{vars, first-text, equation-text}
 use Rattle.text.specs.RunTexts.{most-text, text-from, run-text}
 use Rattle.text.proofs.Blocks.{most-block, block-most, equation-most}
@@ -39,24 +42,25 @@ from-most (w ∷ ws) t k good =
       from-most ws (a .table) (k + 1) good-a,
     )
 
-shared-most : (xs cs ts : List ℕ) → length (share-out xs cs ts) ≤ length xs
+shared-most : (f : Left) (xs cs ts : List ℕ) → length (share-out f xs cs ts) ≤ length xs
 unfolding share-out
-shared-most [] cs ts = omega arith
-shared-most (x ∷ xs) [] ts = omega arith
-shared-most (x ∷ xs) (c ∷ cs) ts = omega (arith, shared-most xs cs (drop c ts))
+shared-most f [] cs ts = omega arith
+shared-most f (x ∷ xs) [] ts = omega arith
+shared-most f (x ∷ xs) (c ∷ cs) ts = omega (arith, shared-most f xs cs (drop (span f x c) ts))
 
 -- The text of 65 tables is not longer.
-pub run-most : (t : Table) (q : List ℕ) → GoodTable t → GoodSizes q → length (run-text t (equations-in q)) ≤ most-text
+pub run-most : (t : Table) (q : List ℕ) → GoodTable t → GoodSizes Variable q
+    → length (run-text t (equations-in Variable q)) ≤ most-text
 unfolding run-text equations-of
 run-most t q good sizes =
     let e = first-size q in
-    let ws = equations-in q in
+    let ws = equations-in Variable q in
     omega (
       arith,
       sizes .few,
       length-append (first-text t) (text-from t 1 ws),
       block-most vars (t .l) good (omega arith),
       from-most ws t 1 good,
-      shared-most (lefts e q) (counts e q) (all-tokens e (second-size q) q),
+      shared-most Variable (lefts e q) (counts e q) (all-tokens e (second-size q) q),
       length-numbers e (drop 4 q),
     )

@@ -4,8 +4,8 @@ use Prim.Native.Nat.{ℕ, _+_}
 use Rattle.model.specs.Tables.{positive}
 use Rattle.tables.specs.declared.Table.{Table}
 use Rattle.tables.specs.Refusals.{if-accepted}
-use Rattle.forms.specs.EquationForms.{Written}
-use Rattle.running.specs.States.{written-call}
+use Rattle.terms.specs.Checks.{Written}
+use Rattle.operations.specs.Operations.{written-call}
 use Rattle.text.specs.Lines.{first-text, equation-text}
 
 -- What is said of the equations from the one numbered k on, from table t: the first that is refused ends it.

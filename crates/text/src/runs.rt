@@ -1,6 +1,7 @@
 // The text of a run, measured or written into a lent output. Inner: not a public call.
 use crate::Pass;
 use crate::Reported;
+use equation_forms::Left;
 use operations::Side;
 use tables::Answer;
 use tables::Refusal;
@@ -10,7 +11,8 @@ ghost use Prim.Native.Nat.{_+_, _≤_, _<_};
 ghost use lib.ListN.{length};
 ghost use Rattle.tables.specs.declared.Answer.the-variants.{Refused};
 ghost use Rattle.tables.specs.Values.{GoodTable};
-ghost use Rattle.forms.specs.EquationForms.{equations-in, GoodSizes};
+ghost use Rattle.equation_forms.specs.declared.Left.the-variants.{Variable};
+ghost use Rattle.equation_forms.specs.EquationForms.{equations-in, GoodSizes};
 ghost use Rattle.running.specs.States.{run-from};
 ghost use Rattle.text.specs.Lines.{block, first-text, equation-text};
 ghost use Rattle.text.specs.Passes.{Room, passed};
@@ -99,20 +101,22 @@ fn write_first(pass: Pass, out: &mut [u8], t: Table) -> usize
 
 // Runs equations that were checked on the table, up to the first that is full, with its text.
 pub fn write_run(pass: Pass, t: Table, q: &[u8], out: &mut [u8]) -> Reported
-    requires { ⌜ GoodSizes (now q) × GoodTable t × Room pass (now out) 0 (run-text t (equations-in (now q))) ⌝ }
+    requires { ⌜
+        GoodSizes Variable (now q) × GoodTable t × Room pass (now out) 0 (run-text t (equations-in Variable (now q)))
+        ⌝ }
     ensures { λ r. ⌜
         (r ≡ record {
-          state = run-from 0 t 0 (equations-in (now (q .entry)));
-          size = length (run-text t (equations-in (now (q .entry))));
+          state = run-from 0 t 0 (equations-in Variable (now (q .entry)));
+          size = length (run-text t (equations-in Variable (now (q .entry))));
         })
-        × (now (out .exit) ≡ passed pass (now (out .entry)) 0 (run-text t (equations-in (now (q .entry)))))
+        × (now (out .exit) ≡ passed pass (now (out .entry)) 0 (run-text t (equations-in Variable (now (q .entry)))))
         ⌝ }
 {
     let mut end = write_first(pass, out, t);
     let mut u = t;
-    let mut c = forms::equations::first(q);
-    while forms::equations::more(c) {
-        let a = running::step(Side::Positive, u, c, q);
+    let mut c = equation_forms::first(q);
+    while equation_forms::more(c) {
+        let a = running::step(Left::Variable, Side::Positive, u, c, q);
         let answer = a.answer;
         let v = a.table;
         end = write_equation(pass, out, end, c.k as u32 + 1, answer, v);
@@ -125,7 +129,7 @@ pub fn write_run(pass: Pass, t: Table, q: &[u8], out: &mut [u8]) -> Reported
             }
             Answer::Accepted => {
                 u = v;
-                c = forms::equations::next(c, q);
+                c = equation_forms::next(Left::Variable, c, q);
             }
         }
     }

@@ -4,7 +4,7 @@
 -- All that the proof knows of `advance` is that it meets its contract. The state is plain data: what it owns is made anew
 -- from what is known of it.
 -- Assumes nothing.
-use mathlib.Core.Path.{_≡_, refl, ap, subst}
+use mathlib.Core.Path.{_≡_, refl, ap}
 use Prim.Native.Nat.{ℕ, _<_, _^_}
 use mathlib.Core.List.{List, [], _∷_}
 use lib.ListN.{length}
@@ -28,7 +28,7 @@ use types.Run.{returns, enter, alloc1, alloc0, params1, pass1, pass0, free1, fre
 use types.Part.{whole, sub, look-in}
 use types.SemTy.{Body}
 use sound.WpLaws.{FmC, fmOf, WpFn-mono}
-use denote.RattleType.{RattleType, owns}
+use denote.RattleType.{owns}
 use denote.Laws.{Is, shows}
 use denote.Memory.{mem}
 use denote.Plain.{uint-vals, uint-tells, uint-makes}
@@ -48,6 +48,7 @@ use denote.Triple.Table.{entered, cited}
 use denote.Triple.Walked.{says, Stays, stay-ref, stay-dropped, walkOf, goes-ref, goes-dropped, Walks, ends-at, walked}
 use denote.Triple.Walked.{walk-meets}
 use denote.Exit.{yes}
+use Rattle.terms.specs.Checks.{one-term}
 use Rattle.running.specs.States.{step-number, advanced}
 use Rattle.running.specs.declared.Running.{Running}
 use Rattle.running.specs.declared.Stepped.{Stepped}
@@ -55,6 +56,7 @@ use Rattle.running.proofs.Running as T
 use Rattle.running.proofs.Running.Laws as T′
 use Rattle.running.proofs.Stepped as S
 use Rattle.running.proofs.Stepped.Laws as S′
+use Rattle.analyser.proofs.StepRows.{R, Q, mach, state-known, number-fits}
 use Rattle.running.proofs.advance as g
 use Rattle.running.proofs.advance.Symbol as g-def
 use Rattle.running.proofs.advance.Symbol.{name as #advance}
@@ -63,13 +65,6 @@ use Rattle.analyser.proofs.sharing_step.Key.{name as #sharing-step}
 use Rattle.analyser.proofs.sharing_step as f
 use Rattle.analyser.proofs.sharing_step.Statement as stated
 use Rattle.analyser.proofs.sharing_step.Code as code
-
--- a state, and what `advance` returns
-abbrev R : RattleType
-R = T.the-row
-
-abbrev Q : RattleType
-Q = S.the-row
 
 -- at exit the body still owns the `&mut`; what the number and the slice own has gone to the callee
 abbrev stayed : Stays (f.ended .signature .params) (f.ended .kept)
@@ -89,10 +84,7 @@ module _ {M : Type 1} (𝓤 : URA M) (H : Heap 𝓤) (A : Atoms 𝓤) (W : Given
   abbrev a : RefT Running × (ℕ × (RefT (List ℕ) × Unit {0}))
   a = (record { ptr = (b, o); name = γ; now = h }, (x, (t, tt)))
 
-  -- the machine values: of a state, and of the slice
-  abbrev mach : Running → Val
-  mach = T′.lowered
-
+  -- the machine values
   abbrev v : Val
   v = sliceVal (t .ptr) (length (t .now))
 
@@ -104,7 +96,7 @@ module _ {M : Type 1} (𝓤 : URA M) (H : Heap 𝓤) (A : Atoms 𝓤) (W : Given
 
   -- what is known of what `advance` returns
   abbrev Found : Stepped → Type 0
-  Found r = (r .number ≡ step-number h x (now t)) × (r .state ≡ advanced h x (now t))
+  Found r = (r .number ≡ step-number h (one-term x (now t))) × (r .state ≡ advanced h (one-term x (now t)))
 
   -- the call: what the callee's triple binds outside, what it asks, and what is known of its result
   abbrev to : Callee 𝓤 H A at-mem run .Ghost
@@ -122,15 +114,6 @@ module _ {M : Type 1} (𝓤 : URA M) (H : Heap 𝓤) (A : Atoms 𝓤) (W : Given
   said : (r : Stepped) → ent 𝓤 (ensured 𝓤 H A g.ended (g.clauses 𝓤 H A at-mem run) (κ′, tt) (h, (x, (t, tt))) tt r)
       (fact 𝓤 (Found r))
   said r = exE 𝓤 _ (λ ws. snd∗ 𝓤 (sem 𝓤 H A (lasts g.ended (κ′, tt) (h, (x, (t, tt))) ws)) (fact 𝓤 (Found r)))
-
-  -- what is known of the state that is returned, at its machine value as it is spelled
-  state-known : (r : Stepped) (u : Val) → Is Q r (u ∷ []) → Is R (r .state) (mach (r .state) ∷ [])
-  state-known r u is =
-      let known = LL.owed S.the-type S′.the-laws r _ is .1 .0 in
-      subst (λ (vs : List Val). Is R (r .state) vs) (T′.lowers .val-is (r .state) _ known) known
-
-  number-fits : (r : Stepped) (u : Val) → Is Q r (u ∷ []) → r .number < 2 ^ 32
-  number-fits r u is = LL.owed S.the-type S′.the-laws r _ is .0 .1
 
   exits : (r : Stepped) → r .number < 2 ^ 32 → Found r → ent 𝓤
       (⋆ 𝓤 H A (‵ (fobs γ (R .coded .code (r .state))) ∷ ‵ (fbor κ (Body (mem R) b o γ)) ∷ ‵ (flft κ q) ∷

@@ -8,10 +8,11 @@ use Rattle.model.proofs.Variables.{variables-length}
 use Rattle.words.proofs.Positions.{one-shl}
 use Rattle.tables.proofs.Checking.{good-passes}
 use Rattle.terms.proofs.Reader.{one-variable}
+use Rattle.terms.proofs.Checking.{checked-refuses}
 use Rattle.tables.specs.Refusals.{if-accepted}
 use Rattle.terms.specs.Checks.{if-read}
 use Rattle.operations.specs.Operations.{equation-call}
-use Rattle.operations.proofs.Checked.{Read, good-wide, read-equation, refused-outcome}
+use Rattle.operations.proofs.Checked.{Read, good-wide, read-equation}
 use borrow.Author.Needs.{needs}
 use Rattle.operations.proofs.equation_checked.Statement.{statement}
 use Rattle.operations.proofs.equation_checked.Tie as tie
@@ -55,7 +56,7 @@ returns c =
     rw (
       c .refused .ensures,
       good-passes _ (start at-check-equation .pre),
-      refused-outcome _ _ _ (sym (at-check-equation .check-equation .ensures) ∙ at-r .r .given .1),
+      checked-refuses _ _ _ (sym (at-check-equation .check-equation .ensures) ∙ at-r .r .given .1),
     )
 
 returns-2 : tie.Need-returns-2

@@ -5,7 +5,7 @@ use borrow.Author.Tests.{not-true, not-false}
 use lib.Count.{ones}
 use Rattle.words.proofs.Codec.{set-length, set-word-set}
 use Rattle.tables.specs.Values.{GoodTable}
-use Rattle.procedures.proofs.Sets.{kept-ones}
+use Rattle.candidates.proofs.Sets.{kept-ones}
 use Rattle.tables.specs.Refusals.{if-accepted}
 use Rattle.operations.specs.Operations.{good-keep, projected, projection-call}
 use Rattle.operations.proofs.Checked.{good-few, good-wide, good-list, keep-test, keep-below}

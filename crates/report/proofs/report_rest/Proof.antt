@@ -3,7 +3,8 @@ use mathlib.Core.Path.{sym, _∙_}
 use native.Mathlib.Omega.{arith}
 use borrow.Author.Needs.{needs}
 use Rattle.tables.proofs.Checking.{width-most}
-use Rattle.forms.proofs.Tests.{equations-passed}
+use Rattle.equation_forms.specs.declared.Left.the-variants.{Variable}
+use Rattle.equation_forms.proofs.Tests.{equations-passed}
 use Rattle.report.proofs.Inputs.{rest-refused, rest-goes}
 use Rattle.report.proofs.report_rest.Statement.{statement}
 use Rattle.report.proofs.report_rest.Tie as tie
@@ -26,7 +27,7 @@ write-fitting-requires c κs =
     let at-check = at-enum-told .before .before in
     let at-start = at-check .before .before .before in
     let checked = sym (at-check .check .ensures) ∙ at-enum-told .enum-told .given .1 in
-    (equations-passed (at-start .args .t .l) (at-start .args .q .now) checked .sizes, at-start .pre)
+    (equations-passed Variable (at-start .args .t .l) (at-start .args .q .now) checked .sizes, at-start .pre)
 
 same-length : tie.Need-same-length
 same-length c = search needs

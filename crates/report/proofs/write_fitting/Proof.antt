@@ -4,7 +4,8 @@ use Prim.Native.Nat.{ℕ, _≤_}
 use native.Mathlib.Omega.{arith}
 use lib.ListN.{length}
 use borrow.Author.Needs.{needs}
-use Rattle.forms.specs.EquationForms.{equations-in}
+use Rattle.equation_forms.specs.declared.Left.the-variants.{Variable}
+use Rattle.equation_forms.specs.EquationForms.{equations-in}
 use Rattle.running.specs.States.{run-from}
 use Rattle.text.specs.declared.Reported.{Reported}
 use Rattle.text.specs.RunTexts.{run-text}
@@ -31,7 +32,7 @@ returns c =
     let at-if1 = at-write-run .before .before in
     let at-start = at-if1 .before .before .before in
     let a = at-start .args in
-    let ws = equations-in (a .q .now) in
+    let ws = equations-in Variable (a .q .now) in
     let most = run-most (a .t) (a .q .now) (at-start .pre .1) (at-start .pre .0) in
     let fits : length (run-text (a .t) ws) ≤ length (a .out .now) = omega (arith, at-if1 .if1 .taken, most) in (
       at-write-run .write-run .ensures .0 ∙ reported-fits (run-from 0 (a .t) 0 ws) (run-text (a .t) ws) (a .out .now) fits,
@@ -63,7 +64,7 @@ returns-2 c =
     let at-write-run2 = at-if2 .before .before .before in
     let at-start = at-write-run2 .before .before .before .before .before in
     let a = at-start .args in
-    let ws = equations-in (a .q .now) in
+    let ws = equations-in Variable (a .q .now) in
     let long = ap (λ (r : Reported). r .size) (at-write-run2 .write-run2 .ensures .0) in
     let both = both-fit (run-from 0 (a .t) 0 ws) (run-text (a .t) ws) (a .out .now) (at-write-run2 .write-run2 .ensures .1)
     (omega (arith, at-if2 .if2 .taken, long)) (at-write-run3 .write-run3 .ensures .1) in
@@ -77,7 +78,7 @@ same-length-3 c =
     let at-write-run2 = c .before .before .before .before .before in
     let at-start = at-write-run2 .before .before .before .before .before in
     let a = at-start .args in
-    let ws = equations-in (a .q .now) in
+    let ws = equations-in Variable (a .q .now) in
     ap length
     (kept-measured (run-from 0 (a .t) 0 ws) (run-text (a .t) ws) (a .out .now) (at-write-run2 .write-run2 .ensures .1))
 
@@ -87,7 +88,7 @@ returns-3 c =
     let at-write-run2 = at-if2 .before .before .before in
     let at-start = at-write-run2 .before .before .before .before .before in
     let a = at-start .args in
-    let ws = equations-in (a .q .now) in
+    let ws = equations-in Variable (a .q .now) in
     let long = ap (λ (r : Reported). r .size) (at-write-run2 .write-run2 .ensures .0) in
     let state = ap (λ (r : Reported). r .state) (at-write-run2 .write-run2 .ensures .0) in
     let both = both-narrow (run-from 0 (a .t) 0 ws) (run-text (a .t) ws) (a .out .now)

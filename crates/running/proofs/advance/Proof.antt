@@ -1,7 +1,8 @@
--- A refusal keeps the whole state; else the table is the one after the equation, and one more is counted.
-use mathlib.Core.Path.{_∙_}
+-- The state after the answer to the equation on bytes (`follows-step`).
 use borrow.Author.Needs.{needs}
-use Rattle.running.proofs.Advancing.{advance-refused, advance-accepted}
+use Rattle.terms.specs.Checks.{one-term}
+use Rattle.byte_calls.specs.ByteCalls.{value-call}
+use Rattle.running.proofs.Advancing.{follows-step}
 use Rattle.running.proofs.advance.Statement.{statement}
 use Rattle.running.proofs.advance.Tie as tie
 
@@ -11,41 +12,17 @@ side-numbered-requires c κs = search needs
 equation-term-requires : tie.Need-equation-term-requires
 equation-term-requires c κs = search needs
 
-enum-known-answer : tie.Need-enum-known-answer
-enum-known-answer c = search needs
-
-refusal-number-requires : tie.Need-refusal-number-requires
-refusal-number-requires c κs = search needs
-
-enum-told : tie.Need-enum-told
-enum-told c = search needs
-
-one-more-requires : tie.Need-one-more-requires
-one-more-requires c κs = search needs
+answered-requires : tie.Need-answered-requires
+answered-requires c κs = search needs
 
 returns : tie.Need-returns
+unfolding value-call
 returns c =
-    let at-answer = c .before .before in
-    let at-equation-term = at-answer .before .before .before in
-    let at-side-numbered = at-equation-term .before in
-    let at-start = at-side-numbered .before .before .before in
-    let law = advance-refused (at-start .args .s) (at-start .args .x) (at-start .args .term .now)
-    (at-side-numbered .side-numbered .ensures) (at-equation-term .equation-term .ensures) (at-answer .answer .given .1) in
-    (c .refusal-number .ensures ∙ law .0, law .1)
-
-returns-2 : tie.Need-returns-2
-returns-2 c =
-    let at-enum-told = c .before in
-    let at-equation-term = at-enum-told .before .before .before in
-    let at-side-numbered = at-equation-term .before in
-    let at-start = at-side-numbered .before .before .before in
-    let law = advance-accepted (at-start .args .s) (at-start .args .x) (at-start .args .term .now)
-    (at-side-numbered .side-numbered .ensures) (at-equation-term .equation-term .ensures)
-    (at-enum-told .enum-told .given .1) in
-    rw (c .one-more .ensures) law
+    let at-equation-term = c .before in
+    let at-side-numbered = at-equation-term .before .before in
+    let a = at-side-numbered .before .before .args in
+    follows-step (a .s) (one-term (a .x) (a .term .now)) (at-side-numbered .side-numbered .ensures)
+    (at-equation-term .equation-term .ensures) (c .answered .ensures)
 
 pub advance-spec : {M : Type 1} → statement M
-advance-spec =
-    tie.close
-    (tie.spec side-numbered-requires equation-term-requires enum-known-answer refusal-number-requires enum-told
-    one-more-requires returns returns-2)
+advance-spec = tie.close (tie.spec side-numbered-requires equation-term-requires answered-requires returns)

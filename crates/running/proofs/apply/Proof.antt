@@ -8,22 +8,22 @@ use Rattle.running.proofs.apply.Statement.{statement}
 use Rattle.running.proofs.apply.Tie as tie
 
 abbrev Inv-loop : tie.InvT-loop
-Inv-loop side q s t c₀ u c = SoFar side q t u c
+Inv-loop f side q s t c₀ u c = SoFar f side q t u c
 
 abbrev μ-loop : tie.MeasureT-loop
-μ-loop side q s t c₀ u c = c .e - c .k
+μ-loop f side q s t c₀ u c = c .e - c .k
 
 side-numbered-requires : tie.Need-side-numbered-requires Inv-loop μ-loop
 side-numbered-requires c κs = search needs
 
 first-requires : tie.Need-first-requires Inv-loop μ-loop
-first-requires c κs = c .before .before .pre
+first-requires c κs = let at-start = c .before .before in (at-start .args .f, at-start .pre)
 
 loop-holds : tie.Need-loop-holds Inv-loop μ-loop
 loop-holds c =
     let at-start = c .before .before .before in
     let a = at-start .args in
-    rw (c .first .ensures) (so-far-start (a .side) (a .q .now) (a .t) (at-start .pre))
+    rw (c .first .ensures) (so-far-start (a .side) (a .t) (at-start .pre))
 
 more-requires : tie.Need-more-requires Inv-loop μ-loop
 more-requires c κs = search needs
@@ -59,7 +59,7 @@ returns c =
     let at-start = at-side-numbered .before .before in
     let a = at-start .args in
     rw (c .stopped .ensures, at-refusal-number .refusal-number .ensures)
-    (so-far-stop (a .side) (a .q .now) (a .t) (at-loop .loop .inv) (at-more .more .ensures .0 (at-if1 .if1 .taken))
+    (so-far-stop (at-loop .loop .inv) (at-more .more .ensures .0 (at-if1 .if1 .taken))
     (at-side-numbered .side-numbered .ensures) (at-step .step .ensures) (at-answer .answer .given .1))
 
 enum-told : tie.Need-enum-told Inv-loop μ-loop
@@ -91,7 +91,7 @@ loop-again c =
     let at-start = at-side-numbered .before .before in
     let a = at-start .args in
     rw (c .next .ensures)
-    (so-far-step (a .side) (a .q .now) (a .t) (at-loop .loop .inv) (at-more .more .ensures .0 (at-if1 .if1 .taken))
+    (so-far-step (at-loop .loop .inv) (at-more .more .ensures .0 (at-if1 .if1 .taken))
     (at-side-numbered .side-numbered .ensures) (at-step .step .ensures) (at-enum-told .enum-told .given .1))
 
 stopped-requires-2 : tie.Need-stopped-requires-2 Inv-loop μ-loop
@@ -108,7 +108,7 @@ returns-2 c =
     let at-start = at-loop .before .before .before .before in
     let a = at-start .args in
     c .stopped2 .ensures
-    ∙ so-far-end (a .side) (a .q .now) (a .t) (at-loop .loop .inv) (at-more .more .ensures .1 (at-if1 .if1 .left))
+    ∙ so-far-end (at-loop .loop .inv) (at-more .more .ensures .1 (at-if1 .if1 .left))
 
 pub apply-spec : {M : Type 1} → statement M
 apply-spec = tie.close

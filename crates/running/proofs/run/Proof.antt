@@ -2,7 +2,7 @@
 use mathlib.Core.Path.{sym, _∙_}
 use native.Mathlib.Omega.{arith}
 use borrow.Author.Needs.{needs}
-use Rattle.forms.proofs.Tests.{equations-passed}
+use Rattle.equation_forms.proofs.Tests.{equations-passed}
 use Rattle.running.proofs.Beginning.{read-few, run-unread, run-unchecked, run-goes}
 use Rattle.running.proofs.run.Statement.{statement}
 use Rattle.running.proofs.run.Tie as tie
@@ -46,7 +46,8 @@ apply-requires c κs =
     let at-check = c .before .before in
     let at-shared-slice-known2 = at-check .before .before .before .before .before in
     let at-start = at-shared-slice-known2 .before .before in
-    equations-passed _ (at-start .args .q .now) (sym (at-check .check .ensures) ∙ c .enum-told2 .given .1) .sizes
+    let checked = sym (at-check .check .ensures) ∙ c .enum-told2 .given .1 in
+    equations-passed (at-start .args .f) _ (at-start .args .q .now) checked .sizes
 
 returns : tie.Need-returns
 returns c =
@@ -55,7 +56,7 @@ returns c =
     let at-read-table = at-answer .before .before .before in
     let at-start = at-read-table .before .before .before in
     rw (c .refused .ensures, at-refusal-number .refusal-number .ensures)
-    (run-unread (at-start .args .side) (at-start .args .b .now) (at-start .args .q .now)
+    (run-unread (at-start .args .f) (at-start .args .side) (at-start .args .b .now) (at-start .args .q .now)
     (at-read-table .read-table .ensures) (at-answer .answer .given .1))
 
 returns-2 : tie.Need-returns-2
@@ -67,7 +68,7 @@ returns-2 c =
     let at-read-table = at-enum-told .before .before .before in
     let at-start = at-read-table .before .before .before in
     rw (c .refused2 .ensures, at-refusal-number2 .refusal-number2 .ensures)
-    (run-unchecked (at-start .args .side) (at-start .args .b .now) (at-start .args .q .now)
+    (run-unchecked (at-start .args .f) (at-start .args .side) (at-start .args .b .now) (at-start .args .q .now)
     (at-read-table .read-table .ensures) (at-enum-told .enum-told .given .1)
     (sym (at-check .check .ensures) ∙ at-r .r .given .1))
 
@@ -79,7 +80,7 @@ returns-3 c =
     let at-read-table = at-enum-told .before .before .before in
     let at-start = at-read-table .before .before .before in
     c .apply .ensures
-    ∙ run-goes (at-start .args .side) (at-start .args .b .now) (at-start .args .q .now)
+    ∙ run-goes (at-start .args .f) (at-start .args .side) (at-start .args .b .now) (at-start .args .q .now)
     (at-read-table .read-table .ensures) (at-enum-told .enum-told .given .1)
     (sym (at-check .check .ensures) ∙ at-enum-told2 .enum-told2 .given .1)
 

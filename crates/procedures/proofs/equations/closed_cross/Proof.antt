@@ -3,7 +3,7 @@ use native.Mathlib.Omega.{arith}
 use Rattle.model.specs.Tables.{cross, close}
 use Rattle.lists.proofs.Holding.{within-count}
 use Rattle.lists.proofs.BindLaws.{makes-then, stops-then}
-use Rattle.procedures.specs.Pairs.{pairs-of}
+use Rattle.candidates.specs.Pairs.{pairs-of}
 use Rattle.procedures.specs.Parts.{closed-cross}
 use borrow.Author.Needs.{needs}
 use Rattle.procedures.proofs.equations.closed_cross.Statement.{statement}

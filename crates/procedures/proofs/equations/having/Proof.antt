@@ -7,7 +7,7 @@ use Rattle.model.proofs.Candidates.{zeros-length}
 use Rattle.lists.proofs.Holding.{within-count}
 use Rattle.lists.proofs.BindLaws.{makes-then, stops-then}
 use Rattle.procedures.specs.Parts.{having-set}
-use Rattle.procedures.proofs.Sets.{zeros-shl}
+use Rattle.candidates.proofs.Sets.{zeros-shl}
 use borrow.Author.Needs.{needs}
 use Rattle.procedures.proofs.equations.having.Statement.{statement}
 use Rattle.procedures.proofs.equations.having.Tie as tie

@@ -10,7 +10,7 @@ use Rattle.model.proofs.Bits.{or-length}
 use Rattle.words.proofs.Codec.{set-word-or}
 use Rattle.lists.proofs.Holding.{within-count}
 use Rattle.lists.proofs.BindLaws.{makes-then, stops-then}
-use Rattle.procedures.specs.Pairs.{pairs-of}
+use Rattle.candidates.specs.Pairs.{pairs-of}
 use Rattle.procedures.proofs.EquationsRegrouped.{negative-regrouped}
 use borrow.Author.Needs.{needs}
 use Rattle.procedures.proofs.equations.negative.Statement.{statement}

@@ -1,6 +1,6 @@
 -- By definition: all meets.
 use Rattle.model.specs.Tables.{join}
-use Rattle.procedures.specs.Pairs.{pairs-of}
+use Rattle.candidates.specs.Pairs.{pairs-of}
 use borrow.Author.Needs.{needs}
 use Rattle.procedures.proofs.projections.join_negative.Statement.{statement}
 use Rattle.procedures.proofs.projections.join_negative.Tie as tie

@@ -5,7 +5,7 @@ use Rattle.model.specs.Growth.{_>>=_}
 use Rattle.model.specs.Tables.{change-side, kept, positive-projection, projection}
 use Rattle.lists.proofs.Holding.{within-count}
 use Rattle.lists.proofs.BindLaws.{makes-then, stops-then}
-use Rattle.procedures.proofs.Sets.{kept-ones}
+use Rattle.candidates.proofs.Sets.{kept-ones}
 use borrow.Author.Needs.{needs}
 use Rattle.procedures.proofs.projections.negative.Statement.{statement}
 use Rattle.procedures.proofs.projections.negative.Tie as tie

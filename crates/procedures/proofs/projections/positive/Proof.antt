@@ -5,7 +5,7 @@ use native.Mathlib.Omega.{arith}
 use lib.Count.{ones, ones-le}
 use Rattle.model.specs.Tables.{positive-projection, projection}
 use Rattle.lists.proofs.Holding.{holds-empty}
-use Rattle.procedures.proofs.Sets.{kept-ones}
+use Rattle.candidates.proofs.Sets.{kept-ones}
 use borrow.Author.Needs.{needs}
 use Rattle.procedures.proofs.projections.positive.Statement.{statement}
 use Rattle.procedures.proofs.projections.positive.Tie as tie

@@ -3,6 +3,7 @@ use mathlib.Core.Path.{_∙_}
 use Prim.Native.Nat.{_-_}
 use native.Mathlib.Omega.{arith}
 use borrow.Author.Needs.{needs}
+use Rattle.equation_forms.specs.declared.Left.the-variants.{Variable}
 use Rattle.text.specs.Lines.{vars}
 use Rattle.text.proofs.Blocks.{block-most}
 use Rattle.text.proofs.RunByEquations.{SoFar, so-far-start, so-far-end, so-far-room, so-far-step, so-far-stop, good-next}
@@ -26,7 +27,7 @@ first-requires : tie.Need-first-requires Inv-loop μ-loop
 first-requires c κs =
     let at-shared-slice-known = c .before .before .before .before .before in
     let at-start = at-shared-slice-known .before in
-    at-start .pre .0
+    (Variable, at-start .pre .0)
 
 loop-holds : tie.Need-loop-holds Inv-loop μ-loop
 loop-holds c =

@@ -1,0 +1,3 @@
+pub mod NearEntries
+pub mod WideningByPasses
+pub mod Converting

@@ -1,0 +1,2 @@
+pub mod PieceLoop
+pub mod MatchedEntries
