@@ -1,4 +1,5 @@
-/* Terms of 1024 tokens in the shapes that nest deepest, through the exported calls. Run in a small stack by tests/stack. */
+/* Terms of 1024 tokens in the shapes that nest deepest, through the exported calls; two terms have 1024 together. Run in a small
+   stack by tests/stack. */
 #include "sharing.h"
 
 #include <stdio.h>
@@ -10,9 +11,9 @@ static void put(uint8_t *at, unsigned word) {
     at[1] = (uint8_t)(word >> 8);
 }
 
-/* So many heads of one argument, then heads of `arity` arguments, all of them X1 but the last. */
-static void nest(uint8_t *term, unsigned first, unsigned arity) {
-    for (unsigned i = 0; i < TOKENS - 1; i++) {
+/* So many heads of one argument, then heads of `arity` arguments, all of them X1 but the last: so many tokens in all. */
+static void nest(uint8_t *term, unsigned tokens, unsigned first, unsigned arity) {
+    for (unsigned i = 0; i + 1 < tokens; i++) {
         unsigned token = 1;
         if (i < first)
             token = HEAD + 1;
@@ -20,7 +21,7 @@ static void nest(uint8_t *term, unsigned first, unsigned arity) {
             token = HEAD + arity;
         put(term + 2 * i, token);
     }
-    put(term + 2 * (TOKENS - 1), 1);
+    put(term + 2 * (tokens - 1), 1);
 }
 
 /* The answers to the term on one table of 16 variables: by itself on either side, and as the equation of a run. */
@@ -39,12 +40,46 @@ static int answers(const uint8_t *term) {
     return 0;
 }
 
+/* The answers to two terms in the same way. */
+static int answers_to_two(const uint8_t *terms, size_t left, size_t right) {
+    static uint8_t table[8], equations[8 + 2 * TOKENS], out[SHARING_MAX_FORM];
+    const uint8_t *second = terms + 2 * left;
+    put(table, 16), put(table + 2, 1), put(table + 4, 3), put(table + 6, 1);
+    put(equations, 1), put(equations + 2, TOKENS);
+    put(equations + 4, (unsigned)left), put(equations + 6, (unsigned)right);
+    for (size_t i = 0; i < 2 * TOKENS; i++)
+        equations[8 + i] = terms[i];
+    for (uint32_t side = 0; side < 2; side++) {
+        uint32_t code = sharing_unify(side, table, sizeof table, terms, 2 * left, second, 2 * right, out, sizeof out);
+        sharing_running ran = sharing_unify_run(side, table, sizeof table, equations, sizeof equations);
+        uint32_t step = sharing_unify_step(&ran, terms, 2 * left, second, 2 * right);
+        if (code != SHARING_ACCEPTED || ran.code != SHARING_ACCEPTED || step != SHARING_ACCEPTED)
+            return printf("side %u, %u and %u tokens: %u, %u of the run, %u of the step\n", (unsigned)side, (unsigned)left,
+                          (unsigned)right, (unsigned)code, (unsigned)ran.code, (unsigned)step);
+    }
+    return 0;
+}
+
+/* Two terms of heads of `arity` arguments, as long as each other or not. */
+static int two_terms(unsigned arity) {
+    static uint8_t terms[2 * TOKENS];
+    static const unsigned lefts[] = {1, 2, 256, TOKENS / 2, TOKENS - 256, TOKENS - 2, TOKENS - 1};
+    for (size_t i = 0; i < sizeof lefts / sizeof lefts[0]; i++) {
+        unsigned left = lefts[i], right = TOKENS - left;
+        nest(terms, left, (left - 1) % arity, arity);
+        nest(terms + 2 * left, right, (right - 1) % arity, arity);
+        if (answers_to_two(terms, left, right) != 0)
+            return 1;
+    }
+    return 0;
+}
+
 int main(void) {
     static uint8_t term[2 * TOKENS];
     const unsigned shapes[][2] = {{TOKENS - 1, 1}, {1, 2}, {3, 15}};
     for (size_t i = 0; i < sizeof shapes / sizeof shapes[0]; i++) {
-        nest(term, shapes[i][0], shapes[i][1]);
-        if (answers(term) != 0)
+        nest(term, TOKENS, shapes[i][0], shapes[i][1]);
+        if (answers(term) != 0 || two_terms(shapes[i][1]) != 0)
             return 1;
     }
     return 0;

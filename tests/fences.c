@@ -20,26 +20,26 @@
 
 /* The calls, numbered as in the stream. */
 enum call {
-    READ, PACK, UNPACK, CONVERT, CHANGE_SIDE, EQUATION, JOIN, PROJECT,
-    EQUAL, GROUND, INDEPENDENT, SMALLER, RUN, START, STEP, WRITE, CALLS
+    READ, PACK, UNPACK, CONVERT, CHANGE_SIDE, EQUATION, UNIFY, JOIN, PROJECT, EQUAL,
+    GROUND, INDEPENDENT, SMALLER, RUN, UNIFY_RUN, START, STEP, UNIFY_STEP, WRITE, CALLS
 };
 static const char *const names[CALLS] = {
-    "read",  "pack",   "unpack",      "convert", "change_side", "equation", "join", "project",
-    "equal", "ground", "independent", "smaller", "run",         "start",    "step", "write"};
+    "read",   "pack",        "unpack",  "convert", "change_side", "equation", "unify", "join",       "project", "equal",
+    "ground", "independent", "smaller", "run",     "unify_run",   "start",    "step",  "unify_step", "write"};
 
 struct row { uint32_t len; uint8_t *bytes; };
 
 /* One case of the stream. The state rows are empty where the call has no state. */
 struct record {
     uint32_t call, side, word, other;
-    struct row first, second, held, state;
+    struct row first, second, third, held, state;
     uint32_t number;
     struct row out, state_after;
     uint32_t part_of, part_len; /* 0: part of the first buffer, 1: of the second, 2: empty */
 };
 
 /* What a call is lent. */
-enum role { FIRST, SECOND, OUT, STATE, PART, ROLES };
+enum role { FIRST, SECOND, THIRD, OUT, STATE, PART, ROLES };
 enum placing { BEFORE_FENCE, BEHIND_FENCE, BLOCK, PLACINGS };
 static const char *const placings[PLACINGS] = {"buffers end at a fence", "buffers begin at a fence", "buffers are blocks"};
 
@@ -133,11 +133,11 @@ static int same_state(const sharing_running *state, const uint8_t *bytes)
 }
 
 /* The lent memory of the present call. */
-struct lent { uint8_t *first, *second, *out; sharing_running *state; sharing_part *part; };
+struct lent { uint8_t *first, *second, *third, *out; sharing_running *state; sharing_part *part; };
 
 static uint32_t make_call(const struct record *r, const struct lent *m)
 {
-    size_t first = r->first.len, second = r->second.len, out = r->held.len;
+    size_t first = r->first.len, second = r->second.len, third = r->third.len, out = r->held.len;
     switch (r->call) {
     case READ: return sharing_read(m->first, first, m->out, out);
     case PACK: return sharing_pack(m->first, first, m->out, out);
@@ -145,6 +145,7 @@ static uint32_t make_call(const struct record *r, const struct lent *m)
     case CONVERT: return sharing_convert(r->word, (const uint32_t *)(void *)m->first, first / 4, m->out, out);
     case CHANGE_SIDE: return sharing_change_side(r->side, m->first, first, m->out, out);
     case EQUATION: return sharing_equation(r->side, m->first, first, r->word, m->second, second, m->out, out);
+    case UNIFY: return sharing_unify(r->side, m->first, first, m->second, second, m->third, third, m->out, out);
     case JOIN: return sharing_join(r->side, m->first, first, m->second, second, m->out, out);
     case PROJECT: return sharing_project(r->side, m->first, first, r->word, m->out, out);
     case EQUAL: return sharing_equal(m->first, first, m->second, second, (uint32_t *)(void *)m->out);
@@ -152,8 +153,10 @@ static uint32_t make_call(const struct record *r, const struct lent *m)
     case INDEPENDENT: return sharing_independent(r->side, m->first, first, r->word, r->other, (uint32_t *)(void *)m->out);
     case SMALLER: sharing_smaller(m->first, first, m->second, second, m->part); return 0;
     case RUN: *m->state = sharing_run(r->side, m->first, first, m->second, second); return m->state->code;
+    case UNIFY_RUN: *m->state = sharing_unify_run(r->side, m->first, first, m->second, second); return m->state->code;
     case START: *m->state = sharing_start(r->side, m->first, first); return m->state->code;
     case STEP: return sharing_step(m->state, r->word, m->second, second);
+    case UNIFY_STEP: return sharing_unify_step(m->state, m->second, second, m->third, third);
     default: return sharing_write(m->state, m->out, out);
     }
 }
@@ -165,7 +168,8 @@ static void compare(const struct record *r, const struct lent *m, uint32_t numbe
     if (r->out.len != r->held.len || (r->out.len > 0 && memcmp(m->out, r->out.bytes, r->out.len) != 0))
         fail("another output");
     if ((r->first.len > 0 && memcmp(m->first, r->first.bytes, r->first.len) != 0) ||
-        (r->second.len > 0 && memcmp(m->second, r->second.bytes, r->second.len) != 0))
+        (r->second.len > 0 && memcmp(m->second, r->second.bytes, r->second.len) != 0) ||
+        (r->third.len > 0 && memcmp(m->third, r->third.bytes, r->third.len) != 0))
         fail("an input was changed");
     if (r->state_after.len == STATE_BYTES && !same_state(m->state, r->state_after.bytes))
         fail("another state");
@@ -185,20 +189,24 @@ static void run_placed(const struct record *r)
     struct lent m;
     m.first = place(FIRST, r->first.bytes, r->first.len);
     m.second = place(SECOND, r->second.bytes, r->second.len);
+    m.third = place(THIRD, r->third.bytes, r->third.len);
     m.out = place(OUT, r->held.bytes, r->held.len);
     m.state = (sharing_running *)(void *)place(STATE, &state, sizeof state);
     sharing_part part = {m.first, 0};
     m.part = (sharing_part *)(void *)place(PART, &part, sizeof part);
     protect(FIRST, PROT_READ);
     protect(SECOND, PROT_READ);
+    protect(THIRD, PROT_READ);
     if (r->call == WRITE)
         protect(STATE, PROT_READ);
     compare(r, &m, make_call(r, &m));
     protect(FIRST, PROT_READ | PROT_WRITE);
     protect(SECOND, PROT_READ | PROT_WRITE);
+    protect(THIRD, PROT_READ | PROT_WRITE);
     protect(STATE, PROT_READ | PROT_WRITE);
     leave(m.first);
     leave(m.second);
+    leave(m.third);
     leave(m.out);
     leave((uint8_t *)m.state);
     leave((uint8_t *)m.part);
@@ -235,6 +243,7 @@ static int take_record(struct record *r)
     take(&r->other, 4);
     r->first = take_row();
     r->second = take_row();
+    r->third = take_row();
     r->held = take_row();
     r->state = take_row();
     take(&r->number, 4);
@@ -247,7 +256,7 @@ static int take_record(struct record *r)
 
 static void free_record(struct record *r)
 {
-    struct row *rows[] = {&r->first, &r->second, &r->held, &r->state, &r->out, &r->state_after};
+    struct row *rows[] = {&r->first, &r->second, &r->third, &r->held, &r->state, &r->out, &r->state_after};
     for (size_t k = 0; k < sizeof rows / sizeof rows[0]; k++)
         free(rows[k]->bytes);
 }

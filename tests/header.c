@@ -43,6 +43,7 @@ struct calls {
     word (*convert)(word, const uint32_t *, size_t, out, size_t);
     word (*change_side)(word, in, size_t, out, size_t);
     word (*equation)(word, in, size_t, word, in, size_t, out, size_t);
+    word (*unify)(word, in, size_t, in, size_t, in, size_t, out, size_t);
     word (*join)(word, in, size_t, in, size_t, out, size_t);
     word (*project)(word, in, size_t, word, out, size_t);
     word (*equal)(in, size_t, in, size_t, word *);
@@ -50,13 +51,16 @@ struct calls {
     word (*independent)(word, in, size_t, word, word, word *);
     void (*smaller)(in, size_t, in, size_t, sharing_part *);
     sharing_running (*run)(word, in, size_t, in, size_t);
+    sharing_running (*unify_run)(word, in, size_t, in, size_t);
     sharing_running (*start)(word, in, size_t);
     word (*step)(sharing_running *, word, in, size_t);
+    word (*unify_step)(sharing_running *, in, size_t, in, size_t);
     word (*write)(const sharing_running *, out, size_t);
-} calls = {sharing_read,        sharing_pack,     sharing_unpack,      sharing_convert,
-           sharing_change_side, sharing_equation, sharing_join,        sharing_project,
-           sharing_equal,       sharing_ground,   sharing_independent, sharing_smaller,
-           sharing_run,         sharing_start,    sharing_step,        sharing_write};
+} calls = {sharing_read,        sharing_pack,       sharing_unpack, sharing_convert,
+           sharing_change_side, sharing_equation,   sharing_unify,  sharing_join,
+           sharing_project,     sharing_equal,      sharing_ground, sharing_independent,
+           sharing_smaller,     sharing_run,        sharing_unify_run, sharing_start,
+           sharing_step,        sharing_unify_step, sharing_write};
 
 #if SHARING_VERSION_MAJOR < 0 || SHARING_VERSION_MINOR < 0 || SHARING_VERSION_PATCH < 0
 #error "the preprocessor cannot compare the version"

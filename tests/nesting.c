@@ -1,8 +1,9 @@
 /*
  * The stack that a call needs, measured: it runs in a thread whose stack was filled before, and the
- * bytes that changed are counted. Terms of several lengths in the shapes that nest deepest, and the
- * other calls on tables that are long or have many stars. The arguments are what sharing.h says, and
- * must not be exceeded: tokens and KiB, tokens and KiB, ..., and the KiB of any other call.
+ * bytes that changed are counted. Terms of several lengths in the shapes that nest deepest, two terms
+ * with so many tokens together in several splits, and the other calls on tables that are long or have
+ * many stars. The arguments are what sharing.h says, and must not be exceeded: tokens and KiB, tokens
+ * and KiB, ..., and the KiB of any other call.
  */
 #define _DEFAULT_SOURCE
 #include <sharing_util.h>
@@ -17,13 +18,14 @@ enum { STACK = 1 << 20, FILL = 0x5a, KIB = 1024, UTIL = 16 };
 static uint8_t table[SHARING_MAX_FORM], other[SHARING_MAX_FORM], out[SHARING_MAX_FORM];
 static uint8_t term[2 * SHARING_MAX_TOKENS], equations[8 + 2 * SHARING_MAX_TOKENS];
 static uint8_t packed[SHARING_MAX_PACKED];
-static size_t table_len, packed_len, term_len;
+static size_t table_len, packed_len, term_len, left_len; /* the left term is the first part of two */
 static uint32_t side, code, answer;
 static sharing_running state;
 static int number;
 
-/* The calls with a term, the others, and functions of sharing_util.h. */
-enum { EQUATION, RUN, STEP, WITH_TERM };
+/* The calls with a term, those with two, the others, and functions of sharing_util.h. */
+enum { EQUATION, RUN, STEP, WITH_ONE };
+enum { UNIFY = WITH_ONE, UNIFY_RUN, UNIFY_STEP, WITH_TERM };
 enum { READ = WITH_TERM, PACK, UNPACK, CONVERT, SIDES, JOIN, PROJECT, EQUAL, GROUND, INDEPENDENT,
        START, WRITE, WITHOUT_TERM };
 enum { SELECT = WITHOUT_TERM, UNKNOWN, KNOWN, CALLS };
@@ -31,12 +33,20 @@ enum { SELECT = WITHOUT_TERM, UNKNOWN, KNOWN, CALLS };
 /* The call by its number. */
 static void *call(void *unused) {
     static const uint32_t words[] = {1, 2, 3, 4, 5, 6, 7, 8, 9, 10, 11, 12, 13, 14, 15, 16};
-    const uint8_t *t = table;
-    size_t n = table_len, o = sizeof out;
+    const uint8_t *t = table, *right = term + left_len;
+    size_t n = table_len, o = sizeof out, right_len = term_len - left_len;
     switch (number) {
     case EQUATION: code = sharing_equation(side, t, n, 1, term, term_len, out, o); break;
     case RUN: state = sharing_run(side, t, n, equations, 8 + term_len); code = state.code; break;
     case STEP: code = sharing_step(&state, 1, term, term_len); break;
+    case UNIFY:
+        code = sharing_unify(side, t, n, term, left_len, right, right_len, out, o);
+        break;
+    case UNIFY_RUN:
+        state = sharing_unify_run(side, t, n, equations, 8 + term_len);
+        code = state.code;
+        break;
+    case UNIFY_STEP: code = sharing_unify_step(&state, term, left_len, right, right_len); break;
     case READ: code = sharing_read(t, n, out, o); break;
     case PACK: code = sharing_pack(t, n, out, o); break;
     case UNPACK: code = sharing_unpack(packed, packed_len, out, o); break;
@@ -72,36 +82,58 @@ static size_t measured(unsigned char *stack) {
 }
 
 /* Heads of `arity` arguments, all of them X1 but the last, which nests: so many tokens in all. */
-static void nest(size_t tokens, uint32_t arity) {
+static void nest(uint8_t *row, size_t tokens, uint32_t arity) {
     size_t first = (tokens - 1) % arity;
     for (size_t i = 0; i < tokens; i++) {
         uint32_t head = i < first ? 1 : (i - first) % arity == 0 ? arity : 0;
-        uint32_t token = head != 0 && i + 1 < tokens ? sharing_head(0, head) : 1;
-        sharing_put_word(term, i, token);
-        sharing_put_word(equations, 4 + i, token);
+        sharing_put_word(row, i, head != 0 && i + 1 < tokens ? sharing_head(0, head) : 1);
     }
-    term_len = 2 * tokens;
-    sharing_put_word(equations, 0, 1);
-    sharing_put_word(equations, 1, (uint32_t)tokens);
-    sharing_put_word(equations, 2, 1);
-    sharing_put_word(equations, 3, (uint32_t)tokens);
 }
 
-/* The most that a call with a term of so many tokens needs, in any shape, on either side. */
-static size_t most_with_term(unsigned char *stack, size_t tokens) {
+/* One term of so many tokens or, where left is not 0, two; and the equations of a run of it. */
+static void make_terms(size_t tokens, size_t left, uint32_t arity) {
+    left_len = 2 * left;
+    term_len = 2 * tokens;
+    if (left > 0)
+        nest(term, left, arity);
+    nest(term + left_len, tokens - left, arity);
+    sharing_put_word(equations, 0, 1);
+    sharing_put_word(equations, 1, (uint32_t)tokens);
+    sharing_put_word(equations, 2, left > 0 ? (uint32_t)left : 1);
+    sharing_put_word(equations, 3, (uint32_t)(tokens - left));
+    memcpy(equations + 8, term, term_len);
+}
+
+/* The most that the calls first to last need with these terms, on either side. */
+static size_t most_of(unsigned char *stack, int first, int last, size_t tokens) {
     size_t most = 0;
-    for (uint32_t arity = 1; arity <= 15; arity++)
-        for (side = 0; side < 2; side++)
-            for (number = 0; number < WITH_TERM; number++) {
-                nest(tokens, arity);
-                state = sharing_start(side, table, table_len);
-                size_t used = measured(stack);
-                if (code != SHARING_ACCEPTED) {
-                    printf("%u tokens are refused %u\n", (unsigned)tokens, (unsigned)code);
-                    exit(EXIT_FAILURE);
-                }
-                most = used > most ? used : most;
+    for (side = 0; side < 2; side++)
+        for (number = first; number < last; number++) {
+            state = sharing_start(side, table, table_len);
+            size_t used = measured(stack);
+            if (code != SHARING_ACCEPTED) {
+                printf("%u tokens are refused %u\n", (unsigned)tokens, (unsigned)code);
+                exit(EXIT_FAILURE);
             }
+            most = used > most ? used : most;
+        }
+    return most;
+}
+
+/* The most that a call with a term or two of so many tokens needs, in any shape. */
+static size_t most_with_term(unsigned char *stack, size_t tokens) {
+    const size_t lefts[] = {1, tokens / 4, tokens / 2, tokens - 1};
+    size_t most = 0;
+    for (uint32_t arity = 1; arity <= 15; arity++) {
+        make_terms(tokens, 0, arity);
+        size_t used = most_of(stack, EQUATION, WITH_ONE, tokens);
+        most = used > most ? used : most;
+        for (size_t i = 0; i < sizeof lefts / sizeof lefts[0]; i++) {
+            make_terms(tokens, lefts[i], arity);
+            used = most_of(stack, UNIFY, WITH_TERM, tokens);
+            most = used > most ? used : most;
+        }
+    }
     return most;
 }
 

@@ -86,6 +86,35 @@ static const bad_equation bad_equations[] = {
     {1, BYTES(half_term), SHARING_TERM},
     {1, zeros, 0, SHARING_TERM}};
 
+/* Pairs of terms: the left one, then the right one. */
+typedef struct { const uint8_t *left; size_t left_len; const uint8_t *right; size_t right_len;
+                 uint32_t due; } bad_pair;
+
+enum { MOST_BYTES = 2 * SHARING_MAX_TOKENS };
+
+static const bad_pair bad_pairs[] = {
+    {zeros, MOST_BYTES + 2, zeros, 0, SHARING_LONG},
+    {zeros, MOST_BYTES + 3, zeros, 1, SHARING_LONG},
+    {zeros, 1, zeros, MOST_BYTES + 3, SHARING_LONG},
+    {zeros, MOST_BYTES, zeros, 2, SHARING_LONG},
+    {zeros, MOST_BYTES / 2, zeros, MOST_BYTES / 2 + 3, SHARING_LONG},
+    {zeros, MOST_BYTES + 1, zeros, 1, SHARING_TORN},
+    {zeros, MOST_BYTES / 2 + 1, zeros, MOST_BYTES / 2 + 1, SHARING_TORN},
+    {zeros, 3, zeros, 2, SHARING_TORN},
+    {zeros, 2, zeros, 3, SHARING_TORN},
+    {BYTES(variable_4), BYTES(variable_4), SHARING_NAME},
+    {BYTES(two_then_4), BYTES(variable_4), SHARING_NAME},
+    {zeros, 2, BYTES(half_term), SHARING_NAME},
+    {BYTES(two_terms), BYTES(variable_4), SHARING_TERM},
+    {BYTES(half_term), BYTES(variable_4), SHARING_TERM},
+    {zeros, 0, BYTES(variable_4), SHARING_TERM},
+    {BYTES(variable_2), BYTES(variable_4), SHARING_NAME},
+    {BYTES(variable_2), BYTES(two_then_4), SHARING_NAME},
+    {BYTES(variable_2), zeros, 2, SHARING_NAME},
+    {BYTES(variable_2), BYTES(two_terms), SHARING_TERM},
+    {BYTES(variable_2), BYTES(half_term), SHARING_TERM},
+    {BYTES(variable_2), zeros, 0, SHARING_TERM}};
+
 /* Is the table of a refused start or run all zero, and nothing applied? */
 static int is_zero(const sharing_running *state) {
     int zero = state->applied == 0 && state->table.l == 0 && state->table.n == 0;
@@ -111,6 +140,7 @@ static void refuse_table(bad_form bad) {
     EXPECT(bad.due, sharing_pack(form, len, out, 0));
     EXPECT(bad.due, sharing_change_side(1, form, len, out, 0));
     EXPECT(bad.due, sharing_equation(0, form, len, FAR, BYTES(zeros), out, 0));
+    EXPECT(bad.due, sharing_unify(1, form, len, BYTES(zeros), zeros, 1, out, 0));
     EXPECT(bad.due, sharing_join(1, form, len, zeros, 3, out, 0));
     EXPECT(bad.due, sharing_join(0, BYTES(good), form, len, out, 0));
     EXPECT(bad.due, sharing_project(0, form, len, 0, out, 0));
@@ -122,9 +152,13 @@ static void refuse_table(bad_form bad) {
     EXPECT(bad.due, started.code);
     HOLDS(started.side == 1 && is_zero(&started));
     EXPECT(SHARING_WIDTH, sharing_step(&started, FAR, BYTES(zeros)));
+    EXPECT(SHARING_WIDTH, sharing_unify_step(&started, BYTES(zeros), zeros, 1));
     EXPECT(bad.due, started.code);
     EXPECT(SHARING_WIDTH, sharing_write(&started, out, 0));
     sharing_running ran = sharing_run(0, form, len, zeros, 3);
+    EXPECT(bad.due, ran.code);
+    HOLDS(is_zero(&ran));
+    ran = sharing_unify_run(0, form, len, zeros, 3);
     EXPECT(bad.due, ran.code);
     HOLDS(is_zero(&ran));
 }
@@ -161,6 +195,96 @@ static void refuse_equation(bad_equation bad) {
     memcpy(&before, &state, sizeof state);
     EXPECT(bad.due, sharing_step(&state, bad.variable, bad.term, bad.len));
     HOLDS(same_state(&state, &before));
+}
+
+/* The same of two terms. */
+static void refuse_pair(bad_pair bad) {
+    EXPECT(bad.due, sharing_unify(1, BYTES(good), bad.left, bad.left_len, bad.right, bad.right_len,
+                                  out, 0));
+    sharing_running state = sharing_start(0, BYTES(good)), before;
+    memcpy(&before, &state, sizeof state);
+    EXPECT(bad.due,
+           sharing_unify_step(&state, bad.left, bad.left_len, bad.right, bad.right_len));
+    HOLDS(same_state(&state, &before));
+}
+
+/* The refusals of the form of equations of two terms. */
+static void refuse_term_equations(void) {
+    static const uint8_t e_65[] = {WORD(65), WORD(1025)};
+    static const uint8_t m_1025[] = {WORD(0), WORD(1025)};
+    static const uint8_t cut[] = {WORD(1), WORD(2), WORD(1), WORD(2), WORD(9), 0};
+    static const uint8_t sum[] = {WORD(1), WORD(2), WORD(1), WORD(2), WORD(9), WORD(9)};
+    static const uint8_t below[] = {WORD(1), WORD(2), WORD(0), WORD(1), WORD(9), WORD(9)};
+    static const uint8_t wrapped[] = {WORD(1), WORD(0), WORD(0x8000), WORD(0x8000)};
+    static const uint8_t left[] = {WORD(1), WORD(2), WORD(1), WORD(1), WORD(4), WORD(0x8001)};
+    static const uint8_t part[] = {WORD(1), WORD(2), WORD(1), WORD(1), WORD(0x8001), WORD(4)};
+    static const uint8_t no_left[] = {WORD(1), WORD(1), WORD(0), WORD(1), WORD(4)};
+    static const uint8_t right[] = {WORD(1), WORD(3), WORD(1), WORD(2), WORD(1), WORD(1), WORD(4)};
+    static const uint8_t rest[] = {WORD(1), WORD(3), WORD(1), WORD(2), WORD(1), WORD(1), WORD(2)};
+    static const uint8_t none[] = {WORD(1), WORD(1), WORD(1), WORD(0), WORD(1)};
+    /* The left side does not go on in the right one. */
+    static const uint8_t split[] = {WORD(1), WORD(3), WORD(1), WORD(2), WORD(0x8001), WORD(1),
+                                    WORD(2)};
+    static const uint8_t order[] = {WORD(2), WORD(4), WORD(1), WORD(1), WORD(1), WORD(1),
+                                    WORD(1), WORD(0x8001), WORD(4), WORD(1)};
+    const bad_form bad[] = {{zeros, 3, SHARING_TORN},        {BYTES(e_65), SHARING_LONG},
+                            {BYTES(m_1025), SHARING_LONG},   {BYTES(cut), SHARING_TORN},
+                            {BYTES(sum), SHARING_TERM},      {BYTES(below), SHARING_TERM},
+                            {BYTES(wrapped), SHARING_TERM},  {BYTES(left), SHARING_NAME},
+                            {BYTES(part), SHARING_TERM},     {BYTES(no_left), SHARING_TERM},
+                            {BYTES(right), SHARING_NAME},    {BYTES(rest), SHARING_TERM},
+                            {BYTES(none), SHARING_TERM},     {BYTES(split), SHARING_TERM},
+                            {BYTES(order), SHARING_TERM}};
+    for (size_t i = 0; i < COUNT(bad); i++) {
+        sharing_running state = sharing_unify_run(0, BYTES(good), bad[i].bytes, bad[i].len);
+        EXPECT(bad[i].due, state.code);
+        HOLDS(is_zero(&state));
+    }
+    sharing_running state = sharing_unify_run(0, BYTES(good), zeros, 4);
+    HOLDS(state.code == SHARING_ACCEPTED && state.applied == 0 && state.table.n == 3);
+}
+
+/* Is a form the one of the bytes given? It has then been written to out, and is cleared. */
+static int wrote(const uint8_t *due, size_t len) {
+    int same = memcmp(out, due, len) == 0;
+    for (size_t i = len; i < sizeof out; i++)
+        same = same && out[i] == FILL;
+    clear_outputs();
+    return same;
+}
+
+/* What a clash gives, what is given back where nothing is found, and the example of the header. */
+static void two_terms_set_equal(void) {
+    static const uint8_t doubled[] = {WORD(2), WORD(2), WORD(3), WORD(1), WORD(1), WORD(1)};
+    static const uint8_t grown[] = {WORD(2), WORD(1), WORD(1), WORD(1)};
+    static const uint8_t empty[] = {WORD(3), WORD(0)}, stars[] = {WORD(3), WORD(1), WORD(0), WORD(0)};
+    static const uint8_t a[] = {WORD(0x8010)}, f_a[] = {WORD(0x8021), WORD(0x8010)};
+    static const uint8_t late[] = {WORD(0x8022), WORD(1), WORD(0x8010)};
+    static const uint8_t other[] = {WORD(0x8022), WORD(2), WORD(0x8020)};
+    HOLDS(sharing_unify(0, BYTES(good), BYTES(late), BYTES(other), out, 4) == SHARING_ACCEPTED);
+    HOLDS(wrote(BYTES(empty)));
+    HOLDS(sharing_unify(1, BYTES(good), BYTES(late), BYTES(other), out, 8) == SHARING_ACCEPTED);
+    HOLDS(wrote(BYTES(stars)));
+    EXPECT(SHARING_NARROW, sharing_unify(0, BYTES(good), BYTES(a), BYTES(f_a), out, 3));
+    EXPECT(SHARING_NARROW, sharing_unify(1, BYTES(good), BYTES(a), BYTES(f_a), out, 7));
+    for (uint32_t side = 0; side < 2; side++) {
+        HOLDS(sharing_unify(side, BYTES(doubled), BYTES(f_a), BYTES(f_a), out, 8) ==
+              SHARING_ACCEPTED);
+        HOLDS(wrote(BYTES(grown)));
+    }
+    /* f(X1, g(X2)) = f(X3, X4) on four free variables: 1010 0101. */
+    static const uint8_t alone[] = {WORD(4), WORD(4), WORD(15), WORD(15), WORD(15), WORD(15),
+                                    WORD(1), WORD(2), WORD(4), WORD(8)};
+    static const uint8_t left[] = {WORD(0x8022), WORD(1), WORD(0x8031), WORD(2)};
+    static const uint8_t right[] = {WORD(0x8022), WORD(3), WORD(4)};
+    static const uint8_t due[] = {WORD(4), WORD(2), WORD(15), WORD(15), WORD(5), WORD(10)};
+    HOLDS(sharing_unify(0, BYTES(alone), BYTES(left), BYTES(right), out, sizeof due) ==
+          SHARING_ACCEPTED);
+    HOLDS(wrote(BYTES(due)));
+    sharing_running state = sharing_start(0, BYTES(alone));
+    EXPECT(SHARING_ACCEPTED, sharing_unify_step(&state, BYTES(left), BYTES(right)));
+    HOLDS(state.code == SHARING_ACCEPTED && state.applied == 1 && state.table.n == 2 &&
+          state.table.value[0] == 5 && state.table.value[1] == 10);
 }
 
 /* The refusals of the form of equations. */
@@ -209,6 +333,8 @@ static void refuse_rest(void) {
     EXPECT(SHARING_NARROW, sharing_convert(3, words, 1, out, 7));
     EXPECT(SHARING_NARROW, sharing_change_side(0, BYTES(good), out, 11));
     EXPECT(SHARING_NARROW, sharing_equation(0, BYTES(good), 1, BYTES(variable_2), out, 11));
+    EXPECT(SHARING_NARROW,
+           sharing_unify(0, BYTES(good), BYTES(variable_2), BYTES(variable_2), out, 11));
     EXPECT(SHARING_NARROW, sharing_join(0, BYTES(good), BYTES(all_ones), out, 19));
     EXPECT(SHARING_NARROW, sharing_project(0, BYTES(good), 1, out, 7));
     EXPECT(SHARING_NARROW, sharing_write(&state, out, sizeof good - 1));
@@ -222,6 +348,8 @@ static void refuse_value(uint32_t due, const sharing_running *state) {
     EXPECT(due, sharing_write(&copy, out, 0));
     HOLDS(copy.code == SHARING_ACCEPTED);
     EXPECT(due, sharing_step(&copy, FAR, BYTES(zeros)));
+    HOLDS(same_state(&copy, state));
+    EXPECT(due, sharing_unify_step(&copy, BYTES(zeros), zeros, 1));
     HOLDS(same_state(&copy, state));
 }
 
@@ -264,6 +392,28 @@ static void refuse_full_lists(void) {
     EXPECT(SHARING_FULL, sharing_project(1, BYTES(all), 1, out, 0));
 }
 
+/* The same equation, whose term has 16 tokens, as one that a walk finds after X1 = X2: the whole
+ * call is refused. A clash that comes after it is found first. */
+static void refuse_full_pair(const uint8_t *table, size_t table_len, const uint8_t term[2 * 16]) {
+    const uint8_t sizes[] = {WORD(2), WORD(25), WORD(1), WORD(4), WORD(1), WORD(19), WORD(1), WORD(2)};
+    uint8_t left[] = {WORD(0x8023), WORD(1), WORD(1), WORD(0x8010)};
+    uint8_t right[2 * 19] = {WORD(0x8023), WORD(2)}, run[sizeof sizes + sizeof left + sizeof right];
+    memcpy(right + 4, term, 2 * 16);
+    memcpy(right + 2 * 18, left + 6, 2);
+    memcpy(run, sizes, sizeof sizes);
+    memcpy(run + sizeof sizes, left, sizeof left);
+    memcpy(run + sizeof sizes + sizeof left, right, sizeof right);
+    EXPECT(SHARING_FULL, sharing_unify(0, table, table_len, BYTES(left), BYTES(right), out, 0));
+    sharing_running state = sharing_start(0, table, table_len);
+    EXPECT(SHARING_FULL, sharing_unify_step(&state, BYTES(left), BYTES(right)));
+    HOLDS(state.code == SHARING_ACCEPTED && state.applied == 0 && state.table.n == 16);
+    state = sharing_unify_run(0, table, table_len, BYTES(run));
+    HOLDS(state.code == SHARING_FULL && state.applied == 1 && state.table.n == 15);
+    left[6] ^= 0x10;
+    EXPECT(SHARING_ACCEPTED, sharing_unify_step(&state, BYTES(left), BYTES(right)));
+    HOLDS(state.code == SHARING_ACCEPTED && state.applied == 2 && state.table.n == 0);
+}
+
 /* Full, of an equation: X1 with any of X2 to X15 is more than 256 groups. */
 static void refuse_full_equation(void) {
     static uint8_t alone[4 + 4 * 16], term[2 * 16], run[4 + 4 * 2 + 2 * 17];
@@ -285,6 +435,7 @@ static void refuse_full_equation(void) {
     HOLDS(state.code == SHARING_ACCEPTED && state.applied == 1 && state.table.n == 15);
     state = sharing_run(0, BYTES(alone), BYTES(run));
     HOLDS(state.code == SHARING_FULL && state.applied == 1 && state.table.n == 16);
+    refuse_full_pair(BYTES(alone), term);
 }
 
 /* The two-buffer call: where the part stands, and when it is empty. */
@@ -315,7 +466,11 @@ int main(void) {
     refuse_packed();
     for (size_t i = 0; i < COUNT(bad_equations); i++)
         refuse_equation(bad_equations[i]);
+    for (size_t i = 0; i < COUNT(bad_pairs); i++)
+        refuse_pair(bad_pairs[i]);
     refuse_equations();
+    refuse_term_equations();
+    two_terms_set_equal();
     refuse_rest();
     refuse_values();
     refuse_full_lists();

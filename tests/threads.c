@@ -14,7 +14,7 @@ enum { THREADS = 8, ROUNDS = 200, TABLES = 24, L = 7 };
 typedef struct { uint8_t bytes[SHARING_MAX_FORM]; } form;
 
 /* All that the calls give for one table and the next. */
-typedef struct { uint32_t codes[10]; form forms[7]; uint32_t answers[3]; } result;
+typedef struct { uint32_t codes[12]; form forms[8]; uint32_t answers[3]; } result;
 
 static form tables[TABLES];
 static result due[TABLES];
@@ -26,6 +26,10 @@ static void calls(size_t i, result *got) {
     size_t two_len = sharing_front_length(two, SHARING_MAX_FORM);
     uint8_t term[SHARING_SET_TERM];
     size_t term_len = sharing_set_term(0x56, term);
+    uint8_t other[6];
+    sharing_put_word(other, 0, sharing_head(0, 2)); /* as the term begins */
+    sharing_put_word(other, 1, 1);
+    sharing_put_word(other, 2, 4);
     memset(got, 0, sizeof *got);
     sharing_running state = sharing_start(i % 2, one, one_len);
     got->codes[0] = sharing_equation(i % 2, one, one_len, 1, term, term_len, got->forms[0].bytes,
@@ -42,6 +46,9 @@ static void calls(size_t i, result *got) {
     got->codes[9] = sharing_unpack(got->forms[5].bytes,
                                    sharing_packed_front(got->forms[5].bytes, sizeof(form)),
                                    got->forms[6].bytes, sizeof(form));
+    got->codes[10] = sharing_unify(i % 2, one, one_len, term, term_len, other, sizeof other,
+                                   got->forms[7].bytes, sizeof(form));
+    got->codes[11] = sharing_unify_step(&state, other, sizeof other, term, term_len);
     got->answers[2] = state.applied;
 }
 
@@ -82,6 +89,6 @@ int main(void) {
             return EXIT_FAILURE;
         }
     }
-    printf("%d threads, %d calls each\n", THREADS, ROUNDS * TABLES * 12);
+    printf("%d threads, %d calls each\n", THREADS, ROUNDS * TABLES * 14);
     return EXIT_SUCCESS;
 }

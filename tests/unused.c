@@ -17,14 +17,17 @@ int main(void) {
     sharing_convert(1, w, 1, o, 4);
     sharing_change_side(0, b, 4, o, 4);
     sharing_equation(0, b, 4, 1, b, 4, o, 4);
+    sharing_unify(0, b, 4, b, 2, b, 2, o, 4);
     sharing_join(0, b, 4, b, 4, o, 4);
     sharing_project(0, b, 4, 1, o, 4);
     sharing_equal(b, 4, b, 4, &a);
     sharing_ground(0, b, 4, 1, &a);
     sharing_independent(0, b, 4, 1, 1, &a);
     sharing_run(0, b, 4, b, 4);
+    sharing_unify_run(0, b, 4, b, 4);
     sharing_start(0, b, 4);
     sharing_step(&s, 1, b, 4);
+    sharing_unify_step(&s, b, 2, b, 2);
     sharing_write(&s, o, 4);
     sharing_check(b, 4);
     sharing_make_form(1, &e, 1, o, 4);

@@ -682,6 +682,144 @@ static void refused_goals(void) {
     REFUSED(SHARING_NARROW, sharing_known_goal(two, 4, two, 4, some, 2, out, 3));
 }
 
+/* ---- Two terms */
+
+/* A row of tokens. */
+typedef struct { uint8_t bytes[2 * SHARING_MAX_TOKENS]; size_t len; } row;
+
+static void push(row *r, uint32_t token) {
+    r->bytes[r->len++] = (uint8_t)(token & 0xff);
+    r->bytes[r->len++] = (uint8_t)(token >> 8);
+}
+
+/* A random term over X1 to Xl; of each kind of head there are few, so that many are equal. */
+static void push_term(row *r, uint32_t l, uint32_t depth) {
+    uint32_t arity = depth == 0 ? 0 : any(4);
+    if (any(3) == 0) {
+        push(r, 1 + any(l));
+        return;
+    }
+    push(r, sharing_head(any(8) == 0, arity));
+    for (uint32_t i = 0; i < arity; i++)
+        push_term(r, l, depth - 1);
+}
+
+/* The place after the term at a place of a row, in bytes. */
+static size_t after_term(const row *r, size_t at) {
+    uint32_t token = r->bytes[at] | (uint32_t)r->bytes[at + 1] << 8;
+    at += 2;
+    for (uint32_t i = 0; token >> 15 != 0 && i < (token & 15); i++)
+        at = after_term(r, at);
+    return at;
+}
+
+/* What a walk must find: the equations by their places, and whether it clashes. */
+typedef struct { size_t n; int clash; size_t left[64], right[64]; } finds;
+
+/* The walk from a place of each row, by its definition. */
+static void walk_from(const row *s, size_t i, const row *t, size_t j, finds *due) {
+    uint32_t a = s->bytes[i] | (uint32_t)s->bytes[i + 1] << 8;
+    uint32_t b = t->bytes[j] | (uint32_t)t->bytes[j + 1] << 8;
+    size_t p = i + 2, q = j + 2;
+    if (due->clash)
+        return;
+    if (a >> 15 == 0 || b >> 15 == 0) {
+        due->left[due->n] = i;
+        due->right[due->n++] = j;
+        return;
+    }
+    due->clash = a != b;
+    for (uint32_t k = 0; !due->clash && k < (a & 15); k++) {
+        walk_from(s, p, t, q, due);
+        p = after_term(s, p);
+        q = after_term(t, q);
+    }
+}
+
+/* The walk step by step, and sharing_unify beside the equations that it finds. */
+static void check_walk(uint32_t side, const form *table, const row *s, const row *t) {
+    finds due = {0, 0, {0}, {0}};
+    sharing_walk walk = {s->bytes, s->len, t->bytes, t->len};
+    sharing_found found = {0, NULL, 0};
+    HOLDS(sharing_read(table->bytes, table->len, out, sizeof out) == 0);
+    form now = taken();
+    walk_from(s, 0, t, 0, &due);
+    for (size_t k = 0; k < due.n; k++) {
+        const uint8_t *x = s->bytes + due.left[k], *y = t->bytes + due.right[k];
+        int on_left = x[1] >> 7 == 0;
+        HOLDS(sharing_walk_next(&walk, &found) == SHARING_WALK_EQUATION);
+        HOLDS(found.variable == (on_left ? x : y)[0] && found.term == (on_left ? y : x));
+        HOLDS(found.term_len == (on_left ? after_term(t, due.right[k]) - due.right[k]
+                                         : after_term(s, due.left[k]) - due.left[k]));
+        HOLDS(sharing_equation(side, now.bytes, now.len, found.variable, found.term, found.term_len,
+                               out, sizeof out) == 0);
+        now = taken();
+    }
+    for (int again = 0; again < 2; again++)
+        HOLDS(sharing_walk_next(&walk, &found) ==
+              (uint32_t)(due.clash ? SHARING_WALK_CLASH : SHARING_WALK_END));
+    HOLDS(due.clash ? sharing_word_at(walk.left, 0) != sharing_word_at(walk.right, 0)
+                    : walk.left_len == 0 && walk.right_len == 0);
+    HOLDS(sharing_terms_clash(s->bytes, s->len, t->bytes, t->len) == due.clash);
+    HOLDS(sharing_unify(side, table->bytes, table->len, s->bytes, s->len, t->bytes, t->len, out,
+                        sizeof out) == 0);
+    form made = taken();
+    if (due.clash)
+        HOLDS(groups_of(side, &made) == 0 && made.len == (side == SHARING_POSITIVE ? 4u : 8u));
+    else
+        HOLDS(made.len == now.len && memcmp(made.bytes, now.bytes, now.len) == 0);
+}
+
+/* Walks of random terms; lengths of terms, cut and followed by more. */
+static void walks(void) {
+    uint32_t clashes = 0, nothing = 0;
+    for (int round = 0; round < ROUNDS; round++) {
+        uint32_t l = 1 + any(SMALL);
+        form table = random_form(l, any(6));
+        row s = {{0}, 0}, t = {{0}, 0};
+        push_term(&s, l, 3);
+        if (any(6) == 0)
+            t = s;
+        else
+            push_term(&t, l, 3);
+        check_walk(any(2), &table, &s, &t);
+        clashes += (uint32_t)sharing_terms_clash(s.bytes, s.len, t.bytes, t.len);
+        nothing += s.len == t.len && memcmp(s.bytes, t.bytes, s.len) == 0;
+        for (size_t len = 0; len <= s.len; len++)
+            HOLDS(sharing_term_length(s.bytes, len) == (len == s.len ? len : 0));
+        size_t whole = s.len;
+        push(&s, 1);
+        HOLDS(sharing_term_length(s.bytes, s.len) == whole);
+        HOLDS(sharing_term_length(s.bytes, whole + 1) == whole);
+    }
+    HOLDS(clashes > ROUNDS / 10 && nothing > ROUNDS / 10);
+}
+
+/* Terms that are not whole: each is a block of its own, so that a sanitizer sees a byte too many. */
+static void cut_walks(void) {
+    for (int round = 0; round < ROUNDS; round++) {
+        row s = {{0}, 0}, t = {{0}, 0};
+        sharing_found found;
+        push_term(&s, 3, 3);
+        push_term(&t, 3, 3);
+        size_t left_len = any((uint32_t)s.len + 1), right_len = any((uint32_t)t.len + 1);
+        uint8_t *left = (uint8_t *)malloc(left_len + 1), *right = (uint8_t *)malloc(right_len + 1);
+        if (left == NULL || right == NULL)
+            exit(EXIT_FAILURE);
+        memcpy(left + 1, s.bytes, left_len);
+        memcpy(right + 1, t.bytes, right_len);
+        sharing_walk walk = {left + 1, left_len, right + 1, right_len};
+        for (size_t steps = 0; steps < s.len + t.len; steps++)
+            if (sharing_walk_next(&walk, &found) != SHARING_WALK_EQUATION)
+                break;
+        HOLDS(walk.left_len <= left_len && walk.right_len <= right_len);
+        HOLDS(walk.left + walk.left_len == left + 1 + left_len);
+        HOLDS(walk.right + walk.right_len == right + 1 + right_len);
+        free(left);
+        free(right);
+    }
+}
+
 /* The words of the answers, for tests/c to compare with the header. */
 static int print_words(void) {
     for (uint32_t code = 0; code <= SHARING_DIGIT + 1; code++)
@@ -714,6 +852,8 @@ int main(int count, char **words) {
     unknown_goals();
     known_goals();
     refused_goals();
+    walks();
+    cut_walks();
     printf("%u cases, %u failed\n", cases, failures);
     return failures == 0 ? EXIT_SUCCESS : EXIT_FAILURE;
 }

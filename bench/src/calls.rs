@@ -11,6 +11,7 @@ pub trait Calls {
     fn unpack(packed: &[u8], out: &mut [u8]) -> u32;
     fn convert(l: u32, groups: &[u32], out: &mut [u8]) -> u32;
     fn change_side(side: u32, table: &[u8], out: &mut [u8]) -> u32;
+    fn unify(side: u32, table: &[u8], left: &[u8], right: &[u8], out: &mut [u8]) -> u32;
     fn start(side: u32, table: &[u8]) -> Self::State;
     fn step(state: &mut Self::State, variable: u32, term: &[u8]) -> u32;
     fn equal(first: &[u8], second: &[u8], answer: &mut u32) -> u32;

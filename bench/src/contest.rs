@@ -76,6 +76,10 @@ fn perform<C: Calls>(input: &Input, out: &mut [u8], mut see: impl FnMut(u32, Lef
             let number = C::change_side(Side::Positive.number(), table, out);
             see(number, Left::Output(out));
         }
+        Input::Unify { table, left, right } => {
+            let number = C::unify(Side::Positive.number(), table, left, right, out);
+            see(number, Left::Output(out));
+        }
         Input::Chain(chain) => perform_chain(chain, see),
         Input::Equal { first, second } => {
             let mut answer = UNTOUCHED.into();

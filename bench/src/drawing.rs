@@ -3,8 +3,8 @@
 use std::ops::RangeInclusive;
 
 use reference::entry::{low_bits, rising_bits};
-use reference::terms::head;
-use reference::{Entry, Equation};
+use reference::terms::{arity, head};
+use reference::{Entry, Equation, TwoTerms};
 use support::Random;
 
 /// A string of l positions: each `*` with the given chance, else 0 or 1 evenly.
@@ -75,6 +75,24 @@ pub fn equation(random: &mut Random, l: u32) -> Equation {
     Equation {
         left: random.variable(l),
         term,
+    }
+}
+
+/// Two ground terms of so many tokens each that are the same, but for some leaves: these tokens of
+/// the left and of the right one stand there.
+pub fn two_terms(random: &mut Random, size: usize, leaves: &[(u16, u16)]) -> TwoTerms {
+    loop {
+        let ground = random.ground_term_of(size);
+        let mut places: Vec<usize> = (0..size).filter(|&i| arity(ground[i]) == 0).collect();
+        if places.len() < leaves.len() {
+            continue;
+        }
+        random.shuffle(&mut places);
+        let (mut left, mut right) = (ground.clone(), ground);
+        for (place, leaf) in places.into_iter().zip(leaves) {
+            (left[place], right[place]) = *leaf;
+        }
+        return TwoTerms { left, right };
     }
 }
 

@@ -1,7 +1,7 @@
 //! What is checked and timed: calls with the bytes and numbers that they are given.
 
 use reference::forms::{bytes_of, table_length, write_table};
-use reference::{Entry, Equation, Refusal, Side, Table};
+use reference::{Entry, Equation, Refusal, Side, Table, TwoTerms};
 use support::tables::{form_entries, packed};
 
 use crate::questions::{Equality, Independence, Question};
@@ -18,6 +18,12 @@ pub enum Input {
     Convert { l: u32, groups: Vec<u32> },
     /// A positive table that is changed to negative.
     ChangeSide { table: Vec<u8> },
+    /// Two terms that are set equal on a positive table.
+    Unify {
+        table: Vec<u8>,
+        left: Vec<u8>,
+        right: Vec<u8>,
+    },
     /// A running analysis.
     Chain(Chain),
     /// Two tables that are compared.
@@ -61,6 +67,14 @@ impl Input {
         Ok(Input::ChangeSide { table })
     }
 
+    pub fn unify(table: &Table, terms: &TwoTerms) -> Result<Input, Refusal> {
+        Ok(Input::Unify {
+            table: form(table.l, &table.entries)?,
+            left: bytes_of(terms.left.iter().copied()),
+            right: bytes_of(terms.right.iter().copied()),
+        })
+    }
+
     pub fn chain(side: Side, table: &Table, equations: &[Equation]) -> Result<Input, Refusal> {
         let step = |equation: &Equation| Step {
             variable: equation.left.into(),
@@ -95,6 +109,7 @@ impl Input {
             | Input::Pack { table }
             | Input::Unpack { packed: table }
             | Input::ChangeSide { table }
+            | Input::Unify { table, .. }
             | Input::Chain(Chain { table, .. })
             | Input::Equal { first: table, .. }
             | Input::Independent { table, .. } => form_entries(table),

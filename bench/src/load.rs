@@ -2,7 +2,7 @@
 
 use std::slice;
 
-use reference::terms::head;
+use reference::terms::{head, TOKENS};
 use reference::{Equation, Refusal, Side, Table, ENTRIES, VARIABLES};
 use support::Random;
 
@@ -38,6 +38,9 @@ const WIDER_SEED: u64 = 0xBB67_AE85_84CA_A73B;
 
 /// The same for the rows of packed forms; this is the fraction of the root of 5.
 const PACKED_SEED: u64 = 0x3C6E_F372_FE94_F82B;
+
+/// The same for the rows of two terms; this is the fraction of the root of 7.
+const WALK_SEED: u64 = 0xA54F_F53A_5F1D_36F1;
 
 /// The bound of a row, as a multiple of its goal: least times, too, differ from run to run.
 const MARGIN: f64 = 1.25;
@@ -87,7 +90,7 @@ impl Row {
 }
 
 /// All rows: growing by rising density of stars, converting, changes of side, one equation, chains
-/// of equations, the questions, packed forms.
+/// of equations, the questions, packed forms, two terms.
 pub fn rows() -> Result<Vec<Row>, Refusal> {
     let mut random = Random::from_state(SEED);
     let mut later = Random::from_state(LATER_SEED);
@@ -115,6 +118,7 @@ pub fn rows() -> Result<Vec<Row>, Refusal> {
         }
     }
     rows.extend(packing(&mut Random::from_state(PACKED_SEED))?);
+    rows.extend(walks(&mut Random::from_state(WALK_SEED))?);
     Ok(rows)
 }
 
@@ -254,4 +258,19 @@ fn packing(random: &mut Random) -> Result<Vec<Row>, Refusal> {
         }
     }
     Ok(rows)
+}
+
+/// Two terms that have together as many tokens as there may be, each half of them, on the all-star
+/// entry. X1 = a is found in them, so that the time is nearly all that of reading and walking them;
+/// the other row finds X1 = a to X8 = a.
+fn walks(random: &mut Random) -> Result<Vec<Row>, Refusal> {
+    let half = TOKENS / 2;
+    let mut row = |name: &str, found: u16| {
+        let leaves: Vec<(u16, u16)> = (1..=found).map(|x| (x, head(1, 0))).collect();
+        let table = Table::all_star(VARIABLES);
+        let input = |_| Input::unify(&table, &drawing::two_terms(random, half, &leaves));
+        let name = format!("walk of {half} by {half}{name}");
+        Row::new(name, 1.00, (0..INPUTS).map(input))
+    };
+    Ok(vec![row(" tokens", 1)?, row(", 8 equations", 8)?])
 }

@@ -35,6 +35,18 @@ impl Calls for Ours {
         unsafe { sharing_change_side(side, table, len, out.as_mut_ptr(), out.len()) }
     }
 
+    fn unify(side: u32, table: &[u8], left: &[u8], right: &[u8], out: &mut [u8]) -> u32 {
+        let (table, len) = (table.as_ptr(), table.len());
+        let (left, left_len) = (left.as_ptr(), left.len());
+        let (right, right_len) = (right.as_ptr(), right.len());
+        let (out, out_len) = (out.as_mut_ptr(), out.len());
+        unsafe {
+            sharing_unify(
+                side, table, len, left, left_len, right, right_len, out, out_len,
+            )
+        }
+    }
+
     fn start(side: u32, table: &[u8]) -> State {
         unsafe { sharing_start(side, table.as_ptr(), table.len()) }
     }

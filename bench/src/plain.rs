@@ -35,6 +35,10 @@ impl Calls for Plain {
         byte_calls::change_side(side, table, out)
     }
 
+    fn unify(side: u32, table: &[u8], left: &[u8], right: &[u8], out: &mut [u8]) -> u32 {
+        byte_calls::unify(side, table, left, right, out)
+    }
+
     fn start(side: u32, table: &[u8]) -> Running {
         byte_calls::start(side, table)
     }

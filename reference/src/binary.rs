@@ -1,8 +1,10 @@
-//! Sets of groups, and the binary definitions on them (01, "Binary definitions"). Nothing here
-//! uses the growth rule, so it says independently what a table must stand for.
+//! Sets of groups, and the binary definitions on them (01, "Binary definitions"; of two terms 02,
+//! "Both sides compound"). Nothing here uses the growth rule, so it says independently what a table
+//! must stand for.
 
 use crate::entry::{cut_word, low_bits, variable_bit};
 use crate::table::{Side, Table};
+use crate::unification::{walk, Clash, Term};
 
 /// A set of groups of l positions, one bit for each string of 0 and 1.
 #[derive(Clone, Debug, PartialEq, Eq)]
@@ -116,6 +118,17 @@ pub fn equation(set: &GroupSet, x: u32, variables: u32) -> GroupSet {
     let x = variable_bit(x);
     let joined = close(&cross(&relevant(set, x), &relevant(set, variables)));
     join(&irrelevant(set, x | variables), &joined)
+}
+
+/// Two terms set equal: the groups that the equations of their walk give, in order; none where it
+/// clashes.
+pub fn unify(set: &GroupSet, left: &Term, right: &Term) -> GroupSet {
+    match walk(left, right) {
+        Err(Clash) => GroupSet::empty(set.l),
+        Ok(found) => found.iter().fold(set.clone(), |set, (x, term)| {
+            equation(&set, u32::from(*x), term.variables())
+        }),
+    }
 }
 
 /// Join: union.

@@ -1,14 +1,14 @@
 //! The calls on byte buffers. Each returns 0 where accepted, else the number of the refusal,
 //! and a refused call writes nothing. Side 0 is positive, any other number negative.
 
-use crate::forms::{read_front, read_table, read_tokens, write_table};
+use crate::forms::{read_front, read_table, read_tokens, read_two_tokens, write_table};
 use crate::operations;
 use crate::packed::{read_packed, write_packed};
 use crate::questions;
 use crate::refusal::{number_of, Refusal};
 use crate::table::{Side, Table};
 
-pub use crate::running::{run, start, step, write};
+pub use crate::running::{run, start, step, unify_run, unify_step, write};
 
 /// Writes an accepted table into the lent output (9 where it is too short).
 fn hand_back(outcome: Result<Table, Refusal>, out: &mut [u8]) -> u32 {
@@ -61,6 +61,15 @@ pub fn equation(side: u32, table: &[u8], variable: u32, term: &[u8], out: &mut [
     let outcome = read_table(table).and_then(|table| {
         let tokens = read_tokens(term)?;
         operations::equation(Side::of_number(side), &table, variable, &tokens)
+    });
+    hand_back(outcome, out)
+}
+
+/// Two terms set equal: the table, the terms' bytes (7, 1), the tokens, 8, 9.
+pub fn unify(side: u32, table: &[u8], left: &[u8], right: &[u8], out: &mut [u8]) -> u32 {
+    let outcome = read_table(table).and_then(|table| {
+        let (left, right) = read_two_tokens(left, right)?;
+        operations::unify(Side::of_number(side), &table, &left, &right)
     });
     hand_back(outcome, out)
 }

@@ -1,11 +1,11 @@
-//! The written forms of tables and equations (01, "Written form"): 16-bit numbers, low byte
-//! first. Refusals come in the order of 01, "Refusals".
+//! The written forms of tables and equations (01, "Written form"; of two terms 02, "Both sides
+//! compound"): 16-bit numbers, low byte first. Refusals come in the order of 01, "Refusals".
 
 use crate::entry::Entry;
 use crate::growth::grown;
 use crate::refusal::Refusal;
 use crate::table::{check_width, Table, ENTRIES};
-use crate::terms::{check_equation, Equation, TOKENS};
+use crate::terms::{check_equation, check_terms, Equation, TwoTerms, TOKENS};
 
 /// The most equations of one form.
 pub const EQUATIONS: usize = 64;
@@ -100,9 +100,9 @@ pub fn write_table(table: &Table, out: &mut [u8]) -> Result<usize, Refusal> {
     put(&bytes_of(sizes.into_iter().chain(care).chain(value)), out)
 }
 
-/// Reads equations about l variables: sizes present (1), 7, length (1), sum (6), then equation
-/// by equation the left variable, the tokens in order and the whole term.
-pub fn read_equations(l: u32, bytes: &[u8]) -> Result<Vec<Equation>, Refusal> {
+/// The sizes of an equations' form, present (1) and within the limits (7), of the right length (1);
+/// and the numbers after them.
+fn read_equation_sizes(bytes: &[u8]) -> Result<(usize, usize, Vec<u16>), Refusal> {
     let (e, m) = read_sizes(bytes)?;
     let (e, m) = (usize::from(e), usize::from(m));
     if e > EQUATIONS || m > TOKENS {
@@ -111,33 +111,66 @@ pub fn read_equations(l: u32, bytes: &[u8]) -> Result<Vec<Equation>, Refusal> {
     if bytes.len() != equations_length(e, m) {
         return Err(Refusal::Torn);
     }
-    let equations = split_equations(e, m, &words_of(&bytes[4..]))?;
+    Ok((e, m, words_of(&bytes[4..])))
+}
+
+/// Refusal 6: the counts must sum to m.
+fn check_sum(counts: &[u16], m: usize) -> Result<(), Refusal> {
+    if counts
+        .iter()
+        .map(|&count| usize::from(count))
+        .sum::<usize>()
+        == m
+    {
+        Ok(())
+    } else {
+        Err(Refusal::Term)
+    }
+}
+
+/// Takes so many tokens from the front of a row.
+fn take(tokens: &mut &[u16], count: u16) -> Vec<u16> {
+    let (term, rest) = tokens.split_at(usize::from(count));
+    *tokens = rest;
+    term.to_vec()
+}
+
+/// Reads equations about l variables: sizes present (1), 7, length (1), sum (6), then equation
+/// by equation the left variable, the tokens in order and the whole term.
+pub fn read_equations(l: u32, bytes: &[u8]) -> Result<Vec<Equation>, Refusal> {
+    let (e, m, words) = read_equation_sizes(bytes)?;
+    let (lefts, words) = words.split_at(e);
+    let (counts, mut tokens) = words.split_at(e);
+    check_sum(counts, m)?;
+    let rows = lefts.iter().zip(counts);
+    let equations: Vec<Equation> = rows
+        .map(|(&left, &count)| Equation {
+            left,
+            term: take(&mut tokens, count),
+        })
+        .collect();
     for equation in &equations {
         check_equation(l, u32::from(equation.left), &equation.term)?;
     }
     Ok(equations)
 }
 
-/// Shares the m tokens out by the counts; 6 where the counts do not sum to m.
-fn split_equations(e: usize, m: usize, words: &[u16]) -> Result<Vec<Equation>, Refusal> {
-    let (lefts, words) = words.split_at(e);
-    let (counts, mut tokens) = words.split_at(e);
-    if counts
-        .iter()
-        .map(|&count| usize::from(count))
-        .sum::<usize>()
-        != m
-    {
-        return Err(Refusal::Term);
-    }
-    let mut equations = Vec::with_capacity(e);
-    for (&left, &count) in lefts.iter().zip(counts) {
-        let (term, rest) = tokens.split_at(usize::from(count));
-        equations.push(Equation {
-            left,
-            term: term.to_vec(),
-        });
-        tokens = rest;
+/// Reads equations of two terms: the same, with the counts of the left sides in place of the left
+/// variables. All counts together sum to m (6); of each equation the left side comes first.
+pub fn read_two_terms(l: u32, bytes: &[u8]) -> Result<Vec<TwoTerms>, Refusal> {
+    let (e, m, words) = read_equation_sizes(bytes)?;
+    let (counts, mut tokens) = words.split_at(2 * e);
+    check_sum(counts, m)?;
+    let (lefts, rights) = counts.split_at(e);
+    let rows = lefts.iter().zip(rights);
+    let equations: Vec<TwoTerms> = rows
+        .map(|(&left, &right)| TwoTerms {
+            left: take(&mut tokens, left),
+            right: take(&mut tokens, right),
+        })
+        .collect();
+    for TwoTerms { left, right } in &equations {
+        check_terms(l, left, right)?;
     }
     Ok(equations)
 }
@@ -145,23 +178,37 @@ fn split_equations(e: usize, m: usize, words: &[u16]) -> Result<Vec<Equation>, R
 /// Writes equations and gives the length of the form: 7 where there are too many equations or
 /// tokens, 9 where the output is too short; a refusal writes nothing.
 pub fn write_equations(equations: &[Equation], out: &mut [u8]) -> Result<usize, Refusal> {
-    let m = equations
-        .iter()
-        .map(|equation| equation.term.len())
-        .sum::<usize>();
-    if equations.len() > EQUATIONS || m > TOKENS {
-        return Err(Refusal::Long);
-    }
-    let sizes = [equations.len() as u16, m as u16];
     let lefts = equations.iter().map(|equation| equation.left);
     let counts = equations.iter().map(|equation| equation.term.len() as u16);
+    let tokens = equations.iter().map(|equation| &equation.term[..]);
+    put_equations(lefts, counts, tokens, out)
+}
+
+/// The same for equations of two terms.
+pub fn write_two_terms(equations: &[TwoTerms], out: &mut [u8]) -> Result<usize, Refusal> {
+    let lefts = equations.iter().map(|terms| terms.left.len() as u16);
+    let rights = equations.iter().map(|terms| terms.right.len() as u16);
     let tokens = equations
         .iter()
-        .flat_map(|equation| equation.term.iter().copied());
-    put(
-        &bytes_of(sizes.into_iter().chain(lefts).chain(counts).chain(tokens)),
-        out,
-    )
+        .flat_map(|terms| [&terms.left[..], &terms.right]);
+    put_equations(lefts, rights, tokens, out)
+}
+
+/// Writes the sizes, the two arrays and the tokens of an equations' form.
+fn put_equations<'a>(
+    first: impl ExactSizeIterator<Item = u16>,
+    second: impl Iterator<Item = u16>,
+    tokens: impl Iterator<Item = &'a [u16]>,
+    out: &mut [u8],
+) -> Result<usize, Refusal> {
+    let e = first.len();
+    let tokens: Vec<u16> = tokens.flatten().copied().collect();
+    if e > EQUATIONS || tokens.len() > TOKENS {
+        return Err(Refusal::Long);
+    }
+    let sizes = [e as u16, tokens.len() as u16];
+    let words = sizes.into_iter().chain(first).chain(second).chain(tokens);
+    put(&bytes_of(words), out)
 }
 
 /// Reads the tokens of a term handed over by itself: 7 where half the length, rounded down, is
@@ -174,6 +221,15 @@ pub fn read_tokens(bytes: &[u8]) -> Result<Vec<u16>, Refusal> {
         return Err(Refusal::Torn);
     }
     Ok(words_of(bytes))
+}
+
+/// Reads the tokens of two terms handed over by themselves: 7 where half of each length, rounded
+/// down, is together above 1024, then 1 where the left length is odd, then the right.
+pub fn read_two_tokens(left: &[u8], right: &[u8]) -> Result<(Vec<u16>, Vec<u16>), Refusal> {
+    if left.len() / 2 + right.len() / 2 > TOKENS {
+        return Err(Refusal::Long);
+    }
+    Ok((read_tokens(left)?, read_tokens(right)?))
 }
 
 /// Puts a form at the front of an output, whose later bytes keep what they held; 9 where the

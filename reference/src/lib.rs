@@ -22,6 +22,7 @@ pub mod running;
 pub mod sides;
 pub mod table;
 pub mod terms;
+pub mod unification;
 
 pub use binary::{groups, GroupSet};
 pub use entry::Entry;
@@ -29,4 +30,4 @@ pub use refusal::Refusal;
 pub use report::{report, Report};
 pub use running::Running;
 pub use table::{Side, Table, ENTRIES, VARIABLES};
-pub use terms::Equation;
+pub use terms::{Equation, TwoTerms};

@@ -7,7 +7,8 @@ use crate::growth;
 use crate::refusal::Refusal;
 use crate::sides;
 use crate::table::{check_width, Side, Table};
-use crate::terms::{check_single_equation, variables};
+use crate::terms::{check_single_equation, check_single_terms, variables};
+use crate::unification;
 
 /// Convert groups to a positive table: 2, 4 over all words, 8.
 pub fn convert(l: u32, groups: &[u32]) -> Result<Table, Refusal> {
@@ -35,6 +36,16 @@ pub fn equation(side: Side, table: &Table, variable: u32, term: &[u16]) -> Resul
     Ok(Table {
         l: table.l,
         entries,
+    })
+}
+
+/// Two terms set equal: the table's checks, then those of the terms, then 8.
+pub fn unify(side: Side, table: &Table, left: &[u16], right: &[u16]) -> Result<Table, Refusal> {
+    table.check()?;
+    check_single_terms(table.l, left, right)?;
+    Ok(Table {
+        l: table.l,
+        entries: unification::unify(side, table.l, &table.entries, left, right)?,
     })
 }
 

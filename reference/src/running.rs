@@ -1,11 +1,14 @@
-//! The running analysis and the run (01, "Written form" and "Refusals").
+//! The running analysis and the run (01, "Written form" and "Refusals"; with two terms 02, "Both
+//! sides compound").
 
-use crate::equations;
-use crate::forms::{read_equations, read_table, read_tokens, write_table};
+use crate::entry::Entry;
+use crate::forms::write_table;
+use crate::forms::{read_equations, read_table, read_tokens, read_two_terms, read_two_tokens};
 use crate::operations;
 use crate::refusal::{number_of, Refusal};
 use crate::table::{Side, Table};
-use crate::terms::{variables, Equation};
+use crate::terms::{variables, Equation, TwoTerms};
+use crate::{equations, unification};
 
 /// The state of a running analysis.
 #[derive(Clone, Debug, PartialEq, Eq)]
@@ -44,14 +47,24 @@ impl Running {
 
     /// One checked equation of a run; a full one leaves the table and the count, and its number.
     pub fn apply(&mut self, equation: &Equation) -> Result<(), Refusal> {
-        let side = Side::of_number(self.side);
         let (x, set) = (u32::from(equation.left), variables(&equation.term));
-        let entries = equations::equation(side, self.table.l, &self.table.entries, x, set);
-        let outcome = entries.map(|entries| Table {
-            l: self.table.l,
-            entries,
-        });
-        let taken = self.record(outcome);
+        self.apply_rule(|side, l, entries| equations::equation(side, l, entries, x, set))
+    }
+
+    /// The same of two checked terms.
+    pub fn apply_terms(&mut self, terms: &TwoTerms) -> Result<(), Refusal> {
+        let (left, right) = (&terms.left, &terms.right);
+        self.apply_rule(|side, l, entries| unification::unify(side, l, entries, left, right))
+    }
+
+    /// The same by a rule on entries.
+    fn apply_rule(
+        &mut self,
+        rule: impl Fn(Side, u32, &[Entry]) -> Result<Vec<Entry>, Refusal>,
+    ) -> Result<(), Refusal> {
+        let l = self.table.l;
+        let entries = rule(Side::of_number(self.side), l, &self.table.entries);
+        let taken = self.record(entries.map(|entries| Table { l, entries }));
         self.code = number_of(&taken);
         taken
     }
@@ -71,6 +84,13 @@ impl Running {
         let tokens = read_tokens(term)?;
         operations::equation(Side::of_number(self.side), &self.table, variable, &tokens)
     }
+
+    /// The table after two terms more are set equal: the checks in the same order.
+    fn unified_table(&self, left: &[u8], right: &[u8]) -> Result<Table, Refusal> {
+        self.table.check()?;
+        let (left, right) = read_two_tokens(left, right)?;
+        operations::unify(Side::of_number(self.side), &self.table, &left, &right)
+    }
 }
 
 /// Starts a running analysis from the form of a table.
@@ -87,6 +107,13 @@ pub fn step(state: &mut Running, variable: u32, term: &[u8]) -> u32 {
     number_of(&state.record(outcome))
 }
 
+/// Two terms set equal in a running analysis: one accepted call counts as one, however many
+/// equations its walk finds.
+pub fn unify_step(state: &mut Running, left: &[u8], right: &[u8]) -> u32 {
+    let outcome = state.unified_table(left, right);
+    number_of(&state.record(outcome))
+}
+
 /// Writes the form of the table that the state holds.
 pub fn write(state: &Running, out: &mut [u8]) -> u32 {
     number_of(&write_table(&state.table, out))
@@ -95,22 +122,33 @@ pub fn write(state: &Running, out: &mut [u8]) -> u32 {
 /// A run: the whole input is checked first, then the equations are applied in order; a full one
 /// ends it, with the table and the number of equations before it.
 pub fn run(side: u32, table: &[u8], equations: &[u8]) -> Running {
-    let (table, equations) = match read_both(table, equations) {
+    let read = |l| read_equations(l, equations);
+    run_through(side, table, read, Running::apply)
+}
+
+/// A run of equations of two terms.
+pub fn unify_run(side: u32, table: &[u8], equations: &[u8]) -> Running {
+    let read = |l| read_two_terms(l, equations);
+    run_through(side, table, read, Running::apply_terms)
+}
+
+/// A run of equations of either form, which are read for the l of the table.
+fn run_through<E>(
+    side: u32,
+    table: &[u8],
+    read: impl Fn(u32) -> Result<Vec<E>, Refusal>,
+    apply: impl Fn(&mut Running, &E) -> Result<(), Refusal>,
+) -> Running {
+    let both = read_table(table).and_then(|table| Ok((read(table.l)?, table)));
+    let (equations, table) = match both {
         Ok(both) => both,
         Err(refusal) => return Running::refused(side, refusal),
     };
     let mut state = Running::started(side, table);
     for equation in &equations {
-        if state.apply(equation).is_err() {
+        if apply(&mut state, equation).is_err() {
             break;
         }
     }
     state
-}
-
-/// The table of a run, then its equations.
-fn read_both(table: &[u8], equations: &[u8]) -> Result<(Table, Vec<Equation>), Refusal> {
-    let table = read_table(table)?;
-    let equations = read_equations(table.l, equations)?;
-    Ok((table, equations))
 }

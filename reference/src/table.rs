@@ -79,6 +79,14 @@ impl Table {
         }
     }
 
+    /// The table that stands for no groups: empty where it is positive, all-star where negative.
+    pub fn without_groups(side: Side, l: u32) -> Table {
+        match side {
+            Side::Positive => Table::empty(l),
+            Side::Negative => Table::all_star(l),
+        }
+    }
+
     /// A table handed over as arrays and a count: 2, 3, 4, and 4 also for a nonzero entry past
     /// the count.
     pub fn from_arrays(

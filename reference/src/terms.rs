@@ -1,10 +1,11 @@
-//! Terms as rows of 16-bit tokens, and the checks of one equation (01, "Terms").
+//! Terms as rows of 16-bit tokens, and the checks of one equation (01, "Terms"; 02, "Both sides
+//! compound").
 
 use crate::entry::variable_bit;
 use crate::refusal::Refusal;
 use crate::table::check_variable;
 
-/// The most tokens of a term, and of all terms of an equations' form.
+/// The most tokens of a term, of two terms set equal, and of all terms of an equations' form.
 pub const TOKENS: usize = 1024;
 
 /// One equation: a left variable and the tokens of its term.
@@ -14,6 +15,15 @@ pub struct Equation {
     pub left: u16,
     /// The tokens of the right side.
     pub term: Vec<u16>,
+}
+
+/// An equation of two terms.
+#[derive(Clone, Debug, PartialEq, Eq, Hash)]
+pub struct TwoTerms {
+    /// The tokens of the left side.
+    pub left: Vec<u16>,
+    /// The tokens of the right side.
+    pub right: Vec<u16>,
 }
 
 /// Whether a token is a head (top bit 1) and not a variable.
@@ -47,9 +57,8 @@ fn read_row(count: usize, tokens: &[u16]) -> Option<&[u16]> {
     (0..count).try_fold(tokens, |rest, _| read_term(rest))
 }
 
-/// The checks of one equation of a form: left variable (5), tokens in order (5), whole term (6).
-pub fn check_equation(l: u32, variable: u32, term: &[u16]) -> Result<(), Refusal> {
-    check_variable(l, variable)?;
+/// The checks of a term: tokens in order (5), whole term (6).
+pub fn check_term(l: u32, term: &[u16]) -> Result<(), Refusal> {
     for &token in term.iter().filter(|&&token| !is_head(token)) {
         check_variable(l, u32::from(token))?;
     }
@@ -59,12 +68,33 @@ pub fn check_equation(l: u32, variable: u32, term: &[u16]) -> Result<(), Refusal
     }
 }
 
+/// The checks of one equation of a form: left variable (5), then the term.
+pub fn check_equation(l: u32, variable: u32, term: &[u16]) -> Result<(), Refusal> {
+    check_variable(l, variable)?;
+    check_term(l, term)
+}
+
+/// The checks of one equation of two terms of a form: the left term, then the right one.
+pub fn check_terms(l: u32, left: &[u16], right: &[u16]) -> Result<(), Refusal> {
+    check_term(l, left)?;
+    check_term(l, right)
+}
+
 /// The checks of an equation handed over by itself: more than 1024 tokens is 7, then as above.
 pub fn check_single_equation(l: u32, variable: u32, term: &[u16]) -> Result<(), Refusal> {
     if term.len() > TOKENS {
         return Err(Refusal::Long);
     }
     check_equation(l, variable, term)
+}
+
+/// The checks of two terms handed over by themselves: more than 1024 tokens together is 7, then as
+/// above.
+pub fn check_single_terms(l: u32, left: &[u16], right: &[u16]) -> Result<(), Refusal> {
+    if left.len() + right.len() > TOKENS {
+        return Err(Refusal::Long);
+    }
+    check_terms(l, left, right)
 }
 
 /// The set of variables of a checked term, as a word.

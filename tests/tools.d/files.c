@@ -4,9 +4,10 @@
  *
  *     files FOLDER COUNT SEED
  *
- * writes for each K from 0: K.txt a good file; K.words what `input` writes; K.after.N what `pairs`
- * prints after N equations, for each N; K.show what `show` prints; and K.bad, the file with a few
- * bytes changed.
+ * writes for each K from 0: K.txt a good file; K.words what `input` writes or, where an equation has
+ * a variable on neither side, K.unify what `input --unify` writes; K.after.N what `pairs` prints
+ * after N equations, for each N; K.show what `show` prints; and K.bad, the file with a few bytes
+ * changed.
  */
 #include <stdarg.h>
 #include <stdbool.h>
@@ -18,7 +19,7 @@
 /* With six positions no table has more than 240 entries of which none covers another. */
 enum { NAMED = 4, UNNAMED = 2, GROUPS = 1 << (NAMED + UNNAMED), EQUATIONS = 4, ROOM = 20000 };
 
-typedef struct { char text[200]; uint32_t left, right; unsigned variable; size_t tokens; } equation;
+typedef struct { char text[1000]; size_t first, left, right; } equation;
 
 static struct {
     char text[ROOM];
@@ -28,7 +29,8 @@ static struct {
     unsigned entries, care[30], value[30];
     unsigned equations;
     equation equation[EQUATIONS];
-    unsigned token[500];
+    bool compound; /* an equation has a variable on neither side */
+    unsigned token[1000];
     size_t tokens;
     const char *symbol[20];
     unsigned symbols;
@@ -141,21 +143,31 @@ static unsigned make_variable(void) {
     return number;
 }
 
-/* A symbol, in one of the ways of writing it. Equal names in column 0 are equal symbols. */
+enum { ATOMS = 13, CONSTANTS = 18 };
+
+/* The ways of writing symbols. Equal names in column 0 are equal symbols. */
+static const char *const written[CONSTANTS][2] = {
+    {"a", "a"}, {"a", "'a'"}, {"f", "f"}, {"fX_1", "fX_1"}, {"it's", "'it''s'"},
+    {"it's", "'it\\'s'"}, {"A % b", "'A % b'"}, {"\\", "'\\\\'"}, {"", "''"},
+    {"\xc3\x89", "'\xc3\x89'"}, {"[]", "'[]'"}, {".", "'.'"}, {"free", "free"},
+    /* numbers, which differ from atoms of the same text */
+    {"number 1", "1"}, {"number -3", "-3"}, {"number 2.5", "2.5"}, {"1", "'1'"},
+    {"number 1.0e-6", "1.0e-6"}};
+
+/* A symbol, in one of the ways of writing it. */
 static const char *make_symbol(unsigned ways) {
-    static const char *const written[][2] = {
-        {"a", "a"}, {"a", "'a'"}, {"f", "f"}, {"fX_1", "fX_1"}, {"it's", "'it''s'"},
-        {"it's", "'it\\'s'"}, {"A % b", "'A % b'"}, {"\\", "'\\\\'"}, {"", "''"},
-        {"\xc3\x89", "'\xc3\x89'"}, {"[]", "'[]'"}, {".", "'.'"}, {"free", "free"},
-        /* numbers, which differ from atoms of the same text */
-        {"number 1", "1"}, {"number -3", "-3"}, {"number 2.5", "2.5"}, {"1", "'1'"},
-        {"number 1.0e-6", "1.0e-6"}};
     const char *const *way = written[below(ways)];
     put("%s", way[1]);
     return way[0];
 }
 
-enum { ATOMS = 13, CONSTANTS = 18 };
+/* The first way of writing a symbol by its name. */
+static const char *first_way(const char *name) {
+    unsigned i = 0;
+    while (strcmp(written[i][0], name) != 0)
+        i++;
+    return written[i][1];
+}
 
 static uint32_t make_term(unsigned depth);
 
@@ -212,25 +224,65 @@ static uint32_t make_term(unsigned depth) {
     return variables;
 }
 
-/* A random equation, one in three with its variable on the right. */
-static void make_equation(void) {
+/* Passes over the term at a place of the tokens, and gives the place after it. */
+static size_t pass(size_t at) {
+    unsigned token = file.token[at++];
+    for (unsigned i = 0; token >= 0x8000 && i < token % 16; i++)
+        at = pass(at);
+    return at;
+}
+
+/* The term at a place of the tokens once more, here and there with a variable or another term in
+ * place of a part, or with another symbol. The whole of it is no variable. Gives the place after it. */
+static size_t make_like(size_t at, bool whole) {
+    unsigned token = file.token[at], arity = token % 16, other = below(12);
+    const char *name;
+    if (!whole && (token < 0x8000 || other < 5)) {
+        if (other == 0)
+            make_term(1);
+        else
+            file.token[file.tokens++] = make_variable();
+        return pass(at);
+    }
+    name = other == 11 ? "f" : file.symbol[(token - 0x8000) / 16 - 1];
+    put("%s", first_way(name));
+    add_head(name, arity);
+    at++;
+    for (unsigned i = 0; i < arity; i++) {
+        put(i == 0 ? "(" : ", ");
+        at = make_like(at, false);
+    }
+    put(arity > 0 ? ")" : "");
+    return at;
+}
+
+/* The two sides of an equation: a variable on the left, on the right or on neither. */
+static void make_sides(equation *e, unsigned kind) {
+    e->first = file.tokens;
+    if (kind == 0)
+        file.token[file.tokens++] = make_variable();
+    else
+        make_compound(kind == 1 ? 1 : 2);
+    e->left = file.tokens - e->first;
+    put_blank();
+    put(" = ");
+    if (kind == 0)
+        make_term(2);
+    else if (kind == 1)
+        file.token[file.tokens++] = make_variable();
+    else
+        make_like(e->first, true);
+    e->right = file.tokens - e->first - e->left;
+    file.compound = file.compound || kind == 2;
+}
+
+/* A random equation; `kinds` is 3 where it may have a variable on neither side. */
+static void make_equation(unsigned kinds) {
     equation *e = &file.equation[file.equations++];
-    size_t before = file.tokens, start, end;
+    size_t start, end;
     put_blank();
     start = file.len;
-    if (below(3) == 0) {
-        e->right = make_compound(1);
-        put_blank();
-        put("=");
-        put_blank();
-        e->variable = make_variable();
-    } else {
-        e->variable = make_variable();
-        put(below(2) ? " = " : "= ");
-        e->right = make_term(2);
-    }
-    e->left = 1u << (e->variable - 1);
-    e->tokens = file.tokens - before;
+    make_sides(e, below(kinds));
     for (end = file.len; file.text[end - 1] == ' ' || file.text[end - 1] == '\t';)
         end--;
     memcpy(e->text, file.text + start, end - start);
@@ -241,7 +293,7 @@ static void make_equation(void) {
 
 /* A good file. The first line stands after a byte order mark now and then. */
 static void make_file(void) {
-    unsigned lines = below(4), equations = below(EQUATIONS + 1);
+    unsigned lines = below(4), equations = below(EQUATIONS + 1), kinds = 2 + below(2);
     memset(&file, 0, sizeof file);
     file.line_end = below(5) == 0 ? "\r\n" : "\n";
     put("%s", below(5) == 0 ? "\xef\xbb\xbf" : "");
@@ -253,7 +305,7 @@ static void make_file(void) {
             make_entry();
     }
     for (unsigned i = 0; i < equations; i++)
-        make_equation();
+        make_equation(kinds);
     for (unsigned i = file.named; i < file.width; i++)
         add_entry((1u << file.named) - 1, 1u << i);
 }
@@ -279,7 +331,38 @@ static void put_word(FILE *to, size_t word) {
     fputc((int)(word >> 8), to);
 }
 
-/* What `input` writes of the file. */
+/* The side of an equation that is a variable alone, as `input` takes it: 0 left, 1 right. */
+static size_t variable_side(const equation *e) { return file.token[e->first] >= 0x8000; }
+
+/* The equations as `input` writes them, without the variables that are a side. */
+static void write_equations(FILE *to) {
+    put_word(to, file.tokens - file.equations);
+    for (unsigned i = 0; i < file.equations; i++) {
+        const equation *e = &file.equation[i];
+        put_word(to, file.token[e->first + variable_side(e) * e->left]);
+    }
+    for (unsigned i = 0; i < file.equations; i++)
+        put_word(to, file.equation[i].left + file.equation[i].right - 1);
+    for (unsigned i = 0; i < file.equations; i++) {
+        const equation *e = &file.equation[i];
+        for (size_t k = 0; k < e->left + e->right; k++)
+            if (k != variable_side(e) * e->left)
+                put_word(to, file.token[e->first + k]);
+    }
+}
+
+/* The same with both sides as terms. */
+static void write_both_sides(FILE *to) {
+    put_word(to, file.tokens);
+    for (unsigned i = 0; i < file.equations; i++)
+        put_word(to, file.equation[i].left);
+    for (unsigned i = 0; i < file.equations; i++)
+        put_word(to, file.equation[i].right);
+    for (size_t i = 0; i < file.tokens; i++)
+        put_word(to, file.token[i]);
+}
+
+/* What `input` writes of the file, or `input --unify`. */
 static void write_words(FILE *to) {
     unsigned unnamed = (1u << file.width) - (1u << file.named);
     put_word(to, file.width);
@@ -289,13 +372,10 @@ static void write_words(FILE *to) {
     for (unsigned i = 0; i < file.entries; i++)
         put_word(to, file.value[i]);
     put_word(to, file.equations);
-    put_word(to, file.tokens);
-    for (unsigned i = 0; i < file.equations; i++)
-        put_word(to, file.equation[i].variable);
-    for (unsigned i = 0; i < file.equations; i++)
-        put_word(to, file.equation[i].tokens);
-    for (size_t i = 0; i < file.tokens; i++)
-        put_word(to, file.token[i]);
+    if (file.compound)
+        write_both_sides(to);
+    else
+        write_equations(to);
 }
 
 /* A set of groups; a group is a set of variables. */
@@ -322,18 +402,56 @@ static bool close_once(groups *all) {
 }
 
 /* The groups after x = t, by the definition of Jacobs and Langen. */
-static groups after_equation(groups before, const equation *e) {
+static groups after_one(groups before, uint32_t left, uint32_t right) {
     groups joined = {{false}};
     for (unsigned g = 1; g < GROUPS; g++)
         for (unsigned h = 1; h < GROUPS; h++)
-            if (before.has[g] && before.has[h] && (g & e->left) != 0 && (h & e->right) != 0)
+            if (before.has[g] && before.has[h] && (g & left) != 0 && (h & right) != 0)
                 joined.has[g | h] = true;
     while (close_once(&joined)) {
     }
     for (unsigned g = 1; g < GROUPS; g++)
-        if (before.has[g] && (g & (e->left | e->right)) == 0)
+        if (before.has[g] && (g & (left | right)) == 0)
             joined.has[g] = true;
     return joined;
+}
+
+/* The variables of the term at a place. */
+static uint32_t variables_at(size_t at) {
+    uint32_t set = 0;
+    for (size_t end = pass(at); at < end; at++)
+        set |= file.token[at] < 0x8000 ? 1u << (file.token[at] - 1) : 0;
+    return set;
+}
+
+/* What clashes in an equation: the two heads; none where it does not clash. */
+typedef struct { unsigned left, right; } clash;
+
+/* The first clash in the terms at two places; without one the groups are those after both are equal. */
+static clash unify(size_t left, size_t right, groups *now) {
+    unsigned s = file.token[left], t = file.token[right];
+    clash here = {s, t}, none = {0, 0};
+    if (s < 0x8000 || t < 0x8000) {
+        *now = s < 0x8000 ? after_one(*now, 1u << (s - 1), variables_at(right))
+                          : after_one(*now, 1u << (t - 1), variables_at(left));
+        return none;
+    }
+    if (s != t)
+        return here;
+    left++, right++;
+    for (unsigned i = 0; i < s % 16; i++, left = pass(left), right = pass(right)) {
+        clash inside = unify(left, right, now);
+        if (inside.left != 0)
+            return inside;
+    }
+    return none;
+}
+
+/* The groups after an equation, and its clash. */
+static groups after_equation(groups before, const equation *e, clash *found) {
+    groups none = {{false}};
+    *found = unify(e->first, e->first + e->left, &before);
+    return found->left != 0 ? none : before;
 }
 
 /* Is there a group that has a variable of each set? */
@@ -371,18 +489,44 @@ static void write_place(FILE *to, unsigned after) {
         fprintf(to, "after equation %u, %s", after, file.equation[after - 1].text);
 }
 
-static void write_pair(FILE *to, const groups *now, const groups *start, unsigned after,
-                       const unsigned pair[2]) {
-    bool no = meets(now, 1u << pair[0], 1u << pair[1]);
-    bool absent = has_absent(start);
+/* A head as it is told; the empty list has no quotes there. */
+static void write_head(FILE *to, unsigned head) {
+    const char *name = file.symbol[(head - 0x8000) / 16 - 1];
+    fputs(strcmp(name, "[]") == 0 ? name : first_way(name), to);
+    if (strncmp(name, "number ", 7) != 0)
+        fprintf(to, "/%u", head % 16);
+}
+
+/* In brackets what an answer rests on: the first clash, with its number, and what is in no group. */
+static void write_notes(FILE *to, bool no, clash first, unsigned number, const groups *start) {
+    const char *before = " (";
+    if (no)
+        fputs(" (they may share a variable", to);
+    before = no ? "; " : before;
+    if (number > 0) {
+        fprintf(to, "%sequation %u clashes, ", before, number);
+        write_head(to, first.left);
+        fputs(" against ", to);
+        write_head(to, first.right);
+        fputs(": no bindings go on from it", to);
+        before = "; ";
+    }
+    if (has_absent(start))
+        fputs(before, to);
+    write_absent(to, start);
+    fputs(no || number > 0 || has_absent(start) ? ")" : "", to);
+}
+
+/* A point of the file: how many equations are before it, its groups, and the first clash before it. */
+typedef struct { unsigned after, number; clash first; groups now; } point;
+
+static void write_pair(FILE *to, const point *at, const groups *start, const unsigned pair[2]) {
+    bool no = meets(&at->now, 1u << pair[0], 1u << pair[1]);
     fprintf(to, "%s and %s: may %srun side by side ", file.name[pair[0]], file.name[pair[1]],
             no ? "not " : "");
-    write_place(to, after);
-    if (no || absent)
-        fputs(no && absent ? " (they may share a variable; "
-                           : no ? " (they may share a variable" : " (", to);
-    write_absent(to, start);
-    fputs(no || absent ? ")\n" : "\n", to);
+    write_place(to, at->after);
+    write_notes(to, no, at->first, at->number, start);
+    fputc('\n', to);
 }
 
 /* The row of a group: x for each of its variables. A greater row stands before a lesser one. */
@@ -411,15 +555,14 @@ static unsigned next_group(const groups *now, unsigned size, const char *last) {
 }
 
 /* What `show` prints at a point: with six positions there are at most 63 groups, and all fit. */
-static void write_show(FILE *to, const groups *now, const groups *start, unsigned after) {
+static void write_show(FILE *to, const point *at, const groups *start) {
     unsigned count = 0;
     for (unsigned g = 1; g < GROUPS; g++)
-        count += now->has[g];
+        count += at->now.has[g];
     fputs("Groups ", to);
-    write_place(to, after);
-    fputs(has_absent(start) ? " (" : "", to);
-    write_absent(to, start);
-    fputs(has_absent(start) ? "): " : ": ", to);
+    write_place(to, at->after);
+    write_notes(to, false, at->first, at->number, start);
+    fputs(": ", to);
     if (count == 0)
         fputs("none\n", to);
     else
@@ -432,14 +575,25 @@ static void write_show(FILE *to, const groups *now, const groups *start, unsigne
     }
     for (unsigned size = 1; size <= file.width; size++) {
         char row[2 * (NAMED + UNNAMED) + 1] = "~";
-        for (unsigned g; (g = next_group(now, size, row)) != 0;)
+        for (unsigned g; (g = next_group(&at->now, size, row)) != 0;)
             fprintf(to, "   %s\n", strcpy(row, row_of(g)));
+    }
+}
+
+/* Goes on behind the next equation. */
+static void step(point *at) {
+    clash found;
+    at->now = after_equation(at->now, &file.equation[at->after++], &found);
+    if (found.left != 0 && at->number == 0) {
+        at->number = at->after;
+        at->first = found;
     }
 }
 
 /* What `pairs` and `show` print at each point. */
 static void write_points(const char *folder, unsigned number) {
-    groups start = start_groups(), now = start;
+    groups start = start_groups();
+    point at = {0, 0, {0, 0}, start};
     FILE *shown = open_result(folder, number, "show");
     for (unsigned after = 0; after <= file.equations; after++) {
         char kind[20];
@@ -447,11 +601,11 @@ static void write_points(const char *folder, unsigned number) {
         snprintf(kind, sizeof kind, "after.%u", after);
         to = open_result(folder, number, kind);
         if (after > 0)
-            now = after_equation(now, &file.equation[after - 1]);
+            step(&at);
         for (unsigned i = 0; i < file.named; i++)
             for (unsigned j = i + 1; j < file.named; j++)
-                write_pair(to, &now, &start, after, (unsigned[]){i, j});
-        write_show(shown, &now, &start, after);
+                write_pair(to, &at, &start, (unsigned[]){i, j});
+        write_show(shown, &at, &start);
         fclose(to);
     }
     fclose(shown);
@@ -484,7 +638,7 @@ int main(int argc, char **argv) {
         FILE *good, *words, *bad;
         make_file();
         good = open_result(argv[1], number, "txt");
-        words = open_result(argv[1], number, "words");
+        words = open_result(argv[1], number, file.compound ? "unify" : "words");
         bad = open_result(argv[1], number, "bad");
         fwrite(file.text, 1, file.len, good);
         write_words(words);

@@ -126,12 +126,7 @@ wrong_names() {
     wrong 'vars A\nA = X1' 2:5:2 "X1 is not one of the variables of line 1." "A $symbols"
     wrong 'vars A\nf(B) = A' 2:3:1 "B is not one of the variables of line 1." "A $symbols"
     wrong 'vars A\nA = _B' 2:5:2 "_B is not one of the variables of line 1." "A $symbols"
-    wrong 'vars 3\nf(X1) = g(X2).' 2:1:13 "Neither side of the equation is a variable." \
-        "a variable, which begins with a capital letter or an underscore, on one side.
-    Or add a variable to line 1, here New, make it free, and write two equations: New = f(X1) and New = g(X2)"
-    wrong 'vars 3\n x1 = [a] % b' 2:2:8 "Neither side of the equation is a variable." \
-        "a variable, which begins with a capital letter or an underscore, on one side.
-    Or add a variable to line 1, here New, make it free, and write two equations: New = x1 and New = [a]"
+    wrong 'vars A\nf(A) = g(B)' 2:10:1 "B is not one of the variables of line 1." "A $symbols"
 }
 
 wrong_operators() {

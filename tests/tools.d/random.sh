@@ -12,12 +12,24 @@ reports() {
 }
 
 # File $1 of the folder gives its words, after each equation the answers of the plain sets of groups, and the form of its last
-# table.
+# table. Where an equation has a variable on neither side, its words are those of `input --unify`.
 good_file() {
     local point
     file=$folder/$1.txt
     run input "$file"
-    same "words of $file" "0 " "$status $(cmp "$folder/$1.words" "$out" 2>&1)"
+    if [[ -e $folder/$1.words ]]; then
+        same "words of $file" "0 " "$status $(cmp "$folder/$1.words" "$out" 2>&1)"
+    else
+        unread "input $file"
+        run input "$file" --unify
+        same "words of $file" "0 " "$status $(cmp "$folder/$1.unify" "$out" 2>&1)"
+        run explain "$file"
+        same "equations of $file that are explained" "$(grep -c '^Groups after' "$folder/$1.show")" "$(grep -c '^Equation' "$out")"
+        same "status of explain of $file" $((status)) $(($(grep -c ' clash: ' "$out") > 0))
+        same "clashes of $file" "$(grep -c ' clash: ' "$out" || true)" "$("$program" form "$file" 2>&1 >/dev/null | grep -c ' clashes: ' || true)"
+        terms=$((terms + 1))
+        clashing=$((clashing + status))
+    fi
     for point in "$folder/$1".after.*; do
         run pairs "$file" --after "${point##*.}"
         same "answers of $file after ${point##*.}" "0 " "$status $(cmp "$point" "$out" 2>&1)"
@@ -26,14 +38,28 @@ good_file() {
     done
     run show "$file"
     same "groups of $file" "0 " "$status $(cmp "$folder/$1.show" "$out" 2>&1)"
-    same_form "$file"
+    same_form "$file" "$folder/$1.words"
 }
 
-# The form of the file $1, plain and packed, has the entries that sharerun prints last.
+# The last run, $1, had no output, the status 2 and said that sharerun does not read an equation, at its place; before that it may have
+# told of variables in no group.
+unread() {
+    sed -i '/ is in no group: it counts as known$/d' "$err"
+    told_place "$1"
+    same "what $1 says" 1 "$(head -n 1 "$err" | grep -c ': sharerun does not read equation [0-9]*: neither side of it is a variable\.$')"
+}
+
+# The form of the file $1, plain and packed, has the entries that sharerun prints last or, where it has no words $2 for that,
+# those of the last table.
 same_form() {
     local due option
-    due=$("$program" input "$1" 2>"$scratch/ignored" | "$sharerun" |
-        awk 'NR == 1 { vars = $1 " " $2 } / / { text = vars; next } { text = text "\n" $0 } END { print text }')
+    if [[ -e $2 ]]; then
+        due=$("$program" input "$1" 2>"$scratch/ignored" | "$sharerun" |
+            awk 'NR == 1 { vars = $1 " " $2 } / / { text = vars; next } { text = text "\n" $0 } END { print text }')
+    else
+        due=$("$program" form "$1" 2>"$scratch/ignored" | words | sed -n '1s/^/vars /p'
+            "$program" tables "$1" 2>"$scratch/ignored" | awk '/^Table/ { text = ""; next } $1 ~ /^[01*]+$/ { text = text $1 "\n" } END { printf "%s", text }')
+    fi
     for option in "" --packed; do
         # shellcheck disable=SC2086 # no option is no argument
         same "the form $option of $1 as text" "$due" \
@@ -54,24 +80,33 @@ told_place() {
     [[ ${said[2]} =~ ^\ {4}[[:blank:]]*\^+$ && ${said[3]} =~ ^\ {4}Expected:\ .*\.$ ]] || same "the message of $1" "its four lines" "${said[*]}"
 }
 
-# A changed file is either taken, and then sharerun takes its words too, or told with its place; then no command answers.
+# A changed file is either taken, and then sharerun takes its words too unless it does not read an equation, or told with its
+# place; then no command answers.
 bad_file() {
     local LC_ALL=C
     file=$folder/$1.bad
     run input "$file"
-    if ((status == 0)); then
+    if ((status == 0)) || grep -q ': sharerun does not read ' "$err"; then
         taken=$((taken + 1))
-        same "what sharerun says of the words of $file" "" "$("$sharerun" <"$out" | grep refused || true)"
-        for command in tables show form; do
-            run "$command" "$file"
+        if ((status == 0)); then
+            same "what sharerun says of the words of $file" "" "$("$sharerun" <"$out" | grep refused || true)"
+        else
+            unread "input $file"
+        fi
+        for command in tables show form "input --unify"; do
+            # shellcheck disable=SC2086 # the words are the arguments
+            run $command "$file"
             same "status of $command of $file" 0 "$status"
         done
+        run explain "$file"
+        same "status of explain of $file" 1 $((status < 2))
         return
     fi
     told=$((told + 1))
     told_place "input $file"
-    for command in pairs tables show form; do
-        run "$command" "$file"
+    for command in pairs tables show form explain "input --unify"; do
+        # shellcheck disable=SC2086
+        run $command "$file"
         told_place "$command $file"
     done
     run apart "$file" - -
@@ -79,18 +114,19 @@ bad_file() {
 }
 
 random_files() {
-    local folder=$scratch/random i answers=0 refusing=0 taken=0 told=0
+    local folder=$scratch/random i answers=0 refusing=0 terms=0 clashing=0 taken=0 told=0
     mkdir -p "$folder"
     gcc "${strict[@]}" "${sanitize[@]}" tests/tools.d/files.c -o "$built/files"
-    "$built/files" "$folder" 60 "$1"
-    for ((i = 0; i < 60; i++)); do
+    "$built/files" "$folder" 80 "$1"
+    for ((i = 0; i < 80; i++)); do
         good_file "$i"
         bad_file "$i"
     done
     file=$scratch/file
     # Files of each kind were among them.
-    same "random answers, with some no, and changed files taken and told: $answers $refusing $taken $told" 1 \
-        $((answers > 120 && refusing > 30 && taken > 8 && told > 30))
+    same "random answers, with some no, files of two terms, with some clashes, and changed files taken and told: \
+$answers $refusing $terms $clashing $taken $told" 1 \
+        $((answers > 160 && refusing > 40 && terms > 14 && clashing > 4 && taken > 10 && told > 40))
 }
 
 # Bytes of any kind: the program must end by itself, with no report of a sanitizer, and say something.

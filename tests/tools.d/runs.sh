@@ -8,7 +8,7 @@ usage() { "$program" --help | sed '/^$/,$d'; }
 wrong_runs() {
     cp examples/parish.txt "$file"
     same "the commands of the usage" "$commands --help" "$(usage | sed 's/.*sharetext //; s/ .*//' | grep -v version | xargs)"
-    for arguments in "" "input" "input a b" "explain a" "apart $file X1" "apart $file X1 X2 X3" "inputs $file" "-" "--after 1" "-h" \
+    for arguments in "" "input" "input a b" "explain a b" "explain --unify" "pairs $file --unify" "input $file --unify --unify" "input $file --packed" "apart $file X1" "apart $file X1 X2 X3" "inputs $file" "-" "--after 1" "-h" \
         "pairs" "pairs $file X1" "pairs $file --after" "pairs $file --after 1 --after 1" "pairs --before 1 $file" "tables" "tables $file --after 1" \
         "show" "show $file $file" "show $file --after 1" "show $file --packed" "pairs $file --packed" \
         "form" "form $file $file" "form $file --packed --packed" "form $file --after" "form $file --pack" \

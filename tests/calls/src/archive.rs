@@ -10,8 +10,8 @@ use support::Random;
 pub fn perform(case: &Case, random: &mut Random) -> Result<Outcome, String> {
     match case.call {
         Call::Smaller => smaller(case, random),
-        Call::Run | Call::Start => returner(case, random),
-        Call::Step | Call::Write => on_state(case, random),
+        Call::Run | Call::UnifyRun | Call::Start => returner(case, random),
+        call if call.takes_state() => on_state(case, random),
         call if call.asks() => question(case, random),
         _ => writer(case, random),
     }
@@ -24,8 +24,10 @@ fn writer(case: &Case, random: &mut Random) -> Result<Outcome, String> {
         _ => Guarded::new(&case.first, random),
     };
     let mut second = Guarded::new(&case.second, random);
+    let mut third = Guarded::new(&case.third, random);
     let mut lent = Guarded::new(&case.out, random);
     let (a, n, b, m) = (first.ptr(), first.len(), second.ptr(), second.len());
+    let (c, k) = (third.ptr(), third.len());
     let (out, out_len) = (lent.ptr(), lent.len());
     let (side, word) = (case.side, case.word);
     // SAFETY: each pointer and length are those of one buffer, no two buffers overlap, and the
@@ -38,11 +40,12 @@ fn writer(case: &Case, random: &mut Random) -> Result<Outcome, String> {
             Call::Convert => sharing_convert(word, a.cast(), n / 4, out, out_len),
             Call::ChangeSide => sharing_change_side(side, a, n, out, out_len),
             Call::Equation => sharing_equation(side, a, n, word, b, m, out, out_len),
+            Call::Unify => sharing_unify(side, a, n, b, m, c, k, out, out_len),
             Call::Join => sharing_join(side, a, n, b, m, out, out_len),
             _ => sharing_project(side, a, n, word, out, out_len),
         }
     };
-    inputs_kept(&[&first, &second])?;
+    inputs_kept(&[&first, &second, &third])?;
     outcome(number, &lent, None)
 }
 
@@ -74,6 +77,7 @@ fn returner(case: &Case, random: &mut Random) -> Result<Outcome, String> {
     let state = unsafe {
         match case.call {
             Call::Run => sharing_run(case.side, a, n, b, m),
+            Call::UnifyRun => sharing_unify_run(case.side, a, n, b, m),
             _ => sharing_start(case.side, a, n),
         }
     };
@@ -86,17 +90,19 @@ fn returner(case: &Case, random: &mut Random) -> Result<Outcome, String> {
 fn on_state(case: &Case, random: &mut Random) -> Result<Outcome, String> {
     let mut state = Box::new(Framed::new(*state_of(case)));
     let mut second = Guarded::new(&case.second, random);
+    let mut third = Guarded::new(&case.third, random);
     let mut lent = Guarded::new(&case.out, random);
-    let (b, m) = (second.ptr(), second.len());
+    let (b, m, c, k) = (second.ptr(), second.len(), third.ptr(), third.len());
     let (out, out_len) = (lent.ptr(), lent.len());
     // SAFETY: as above; the state is whole, and any words make one.
     let number = unsafe {
         match case.call {
             Call::Step => sharing_step(&mut state.inner, case.word, b, m),
+            Call::UnifyStep => sharing_unify_step(&mut state.inner, b, m, c, k),
             _ => sharing_write(&raw mut state.inner, out, out_len),
         }
     };
-    inputs_kept(&[&second])?;
+    inputs_kept(&[&second, &third])?;
     if !state.has_guards() {
         return Err("memory around the state was changed".into());
     }

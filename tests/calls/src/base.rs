@@ -2,10 +2,10 @@
 
 use crate::case::{Call, Case};
 use reference::forms::bytes_of;
-use reference::Table;
+use reference::{Table, TwoTerms};
 use support::library::{RawTable, State};
 use support::tables::{form, packed, Size, LONGEST};
-use support::{Equations, Random};
+use support::{Equations, Random, TermEquations};
 
 /// A call on tables of some size, with an output that is long enough.
 pub fn base(call: Call, negative: bool, size: Size, random: &mut Random) -> Case {
@@ -33,6 +33,10 @@ pub fn base_to_damage(call: Call, negative: bool, random: &mut Random) -> Case {
             let size = random.within(1, 8);
             case.second = bytes_of(random.term_of(l, size));
         }
+        call if call.takes_two_terms() => {
+            let (left, right) = (random.within(1, 8), random.within(1, 8));
+            give_terms(&mut case, &random.two_terms_of(l, left, right));
+        }
         Call::Run => {
             let mut equations = Equations::default();
             for _ in 0..random.within(1, 4) {
@@ -42,9 +46,24 @@ pub fn base_to_damage(call: Call, negative: bool, random: &mut Random) -> Case {
             }
             case.second = equations.bytes();
         }
+        Call::UnifyRun => {
+            let mut equations = TermEquations::default();
+            for _ in 0..random.within(1, 4) {
+                let (left, right) = (random.within(1, 5), random.within(1, 5));
+                let terms = random.two_terms_of(l, left, right);
+                equations.push(&terms.left, &terms.right);
+            }
+            case.second = equations.bytes();
+        }
         _ => {}
     }
     case
+}
+
+/// Gives a call the bytes of two terms.
+pub fn give_terms(case: &mut Case, terms: &TwoTerms) {
+    case.second = bytes_of(terms.left.iter().copied());
+    case.third = bytes_of(terms.right.iter().copied());
 }
 
 /// A call on the given table.
@@ -63,6 +82,10 @@ pub fn base_on(call: Call, negative: bool, size: Size, table: &Table, random: &m
             case.word = u32::from(random.variable(l));
             case.second = bytes_of(random.term(l));
         }
+        call if call.takes_two_terms() => {
+            let terms = random.two_terms(l);
+            give_terms(&mut case, &terms);
+        }
         Call::Join | Call::Equal | Call::Smaller => {
             let n = random.shape(size).1;
             case.second = form(&random.table(l, n));
@@ -71,9 +94,10 @@ pub fn base_on(call: Call, negative: bool, size: Size, table: &Table, random: &m
         Call::Ground => case.word = u32::from(random.variable(l)),
         Call::Independent => (case.word, case.other) = (random.set(l), random.set(l)),
         Call::Run => case.second = random.equations(l).bytes(),
+        Call::UnifyRun => case.second = random.term_equations(l).bytes(),
         _ => {}
     }
-    if matches!(call, Call::Step | Call::Write) {
+    if call.takes_state() {
         case.first.clear();
         case.state = Some(Box::new(any_state(case.side, table, random)));
     }

@@ -14,6 +14,7 @@ pub enum Call {
     Convert,
     ChangeSide,
     Equation,
+    Unify,
     Join,
     Project,
     Equal,
@@ -21,20 +22,23 @@ pub enum Call {
     Independent,
     Smaller,
     Run,
+    UnifyRun,
     Start,
     Step,
+    UnifyStep,
     Write,
 }
 
 impl Call {
     /// All calls, in the order of the C header.
-    pub const ALL: [Call; 16] = [
+    pub const ALL: [Call; 19] = [
         Call::Read,
         Call::Pack,
         Call::Unpack,
         Call::Convert,
         Call::ChangeSide,
         Call::Equation,
+        Call::Unify,
         Call::Join,
         Call::Project,
         Call::Equal,
@@ -42,8 +46,10 @@ impl Call {
         Call::Independent,
         Call::Smaller,
         Call::Run,
+        Call::UnifyRun,
         Call::Start,
         Call::Step,
+        Call::UnifyStep,
         Call::Write,
     ];
 
@@ -56,6 +62,7 @@ impl Call {
             Call::Convert => "sharing_convert",
             Call::ChangeSide => "sharing_change_side",
             Call::Equation => "sharing_equation",
+            Call::Unify => "sharing_unify",
             Call::Join => "sharing_join",
             Call::Project => "sharing_project",
             Call::Equal => "sharing_equal",
@@ -63,8 +70,10 @@ impl Call {
             Call::Independent => "sharing_independent",
             Call::Smaller => "sharing_smaller",
             Call::Run => "sharing_run",
+            Call::UnifyRun => "sharing_unify_run",
             Call::Start => "sharing_start",
             Call::Step => "sharing_step",
+            Call::UnifyStep => "sharing_unify_step",
             Call::Write => "sharing_write",
         }
     }
@@ -74,7 +83,7 @@ impl Call {
         use Call::*;
         matches!(
             self,
-            Read | Pack | Unpack | Convert | ChangeSide | Equation | Join | Project | Write
+            Read | Pack | Unpack | Convert | ChangeSide | Equation | Unify | Join | Project | Write
         )
     }
 
@@ -91,12 +100,22 @@ impl Call {
         matches!(self, Call::Equal | Call::Ground | Call::Independent)
     }
 
+    /// Whether the call sets two terms equal that it is given as bytes.
+    pub fn takes_two_terms(self) -> bool {
+        matches!(self, Call::Unify | Call::UnifyStep)
+    }
+
+    /// Whether the call is given a state.
+    pub fn takes_state(self) -> bool {
+        matches!(self, Call::Step | Call::UnifyStep | Call::Write)
+    }
+
     /// Whether what the call does goes by a side.
     pub fn has_side(self) -> bool {
         use Call::*;
-        matches!(
+        !matches!(
             self,
-            ChangeSide | Equation | Join | Project | Ground | Independent | Run | Start | Step
+            Read | Pack | Unpack | Convert | Equal | Smaller | Write
         )
     }
 }
@@ -113,8 +132,10 @@ pub struct Case {
     pub other: u32,
     /// The table, in the form that the call reads, or the words of a conversion.
     pub first: Vec<u8>,
-    /// The second table, the term or the equations.
+    /// The second table, the term, the left one of two terms or the equations.
     pub second: Vec<u8>,
+    /// The right one of two terms.
+    pub third: Vec<u8>,
     /// What the output or the word for the answer holds before the call.
     pub out: Vec<u8>,
     /// The state of a running analysis.
@@ -131,6 +152,7 @@ impl Case {
             other: 0,
             first: Vec::new(),
             second: Vec::new(),
+            third: Vec::new(),
             out: Vec::new(),
             state: None,
         }

@@ -2,11 +2,12 @@
 
 use crate::case::{Call, Case};
 use crate::full::{alternate, convert, join, negative_join, run_of, step_of, table_of, Full};
+use crate::full::{unify_run_of, unify_step_of};
 use crate::tester::Tester;
 use crate::{base, expected};
 use reference::forms::bytes_of;
 use reference::terms::head;
-use reference::{Entry, Table, ENTRIES};
+use reference::{Entry, Table, TwoTerms, ENTRIES};
 use support::tables::{form, form_entries, Size, LONGEST};
 use support::{Checked, Random};
 
@@ -180,6 +181,29 @@ fn equations(tester: &mut Tester, random: &mut Random) -> Checked<()> {
         tester.answered(&step_of(&case, random), number)?;
         tester.answered(&run_of_one(&case), number)?;
         tester.check(&run_of(&case, random))?;
+        pairs(tester, &case, number, random)?;
+    }
+    Ok(())
+}
+
+/// The same equation X1 = X2 as one that a walk finds: a full one refuses the whole call, and a
+/// clash, before it or after it, makes the call accepted.
+fn pairs(tester: &mut Tester, equation: &Case, number: u32, random: &mut Random) -> Checked<()> {
+    let (f, a, b) = (head(1, 2), head(2, 0), head(3, 0));
+    let mut case = equation.clone();
+    case.call = Call::Unify;
+    for (left, right, number) in [
+        (vec![1], vec![2], number),
+        (vec![head(1, 1), 1], vec![head(1, 1), 2], number),
+        (vec![f, a, 1], vec![f, a, 2], number),
+        (vec![f, 1, a], vec![f, 2, a], number),
+        (vec![f, 1, a], vec![f, 2, b], 0),
+        (vec![f, a, 1], vec![f, b, 2], 0),
+    ] {
+        base::give_terms(&mut case, &TwoTerms { left, right });
+        tester.answered(&case, number)?;
+        tester.answered(&unify_step_of(&case, random), number)?;
+        tester.check(&unify_run_of(&case, random))?;
     }
     Ok(())
 }
@@ -237,7 +261,7 @@ fn run_of_one(equation: &Case) -> Case {
 
 /// Takes entries from the table of a full call until it is accepted, and makes each call.
 fn shrink(tester: &mut Tester, full: &Case, random: &mut Random) -> Checked<()> {
-    if matches!(full.call, Call::Convert | Call::Step) {
+    if matches!(full.call, Call::Convert | Call::Step | Call::UnifyStep) {
         return tester.check(full).map(drop);
     }
     let mut case = full.clone();

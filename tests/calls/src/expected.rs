@@ -10,8 +10,9 @@ pub fn expected(case: &Case) -> Outcome {
     match case.call {
         Call::Smaller => smaller(case),
         Call::Run => returned(&byte_calls::run(case.side, &case.first, &case.second)),
+        Call::UnifyRun => returned(&byte_calls::unify_run(case.side, &case.first, &case.second)),
         Call::Start => returned(&byte_calls::start(case.side, &case.first)),
-        Call::Step => step(case),
+        Call::Step | Call::UnifyStep => step(case),
         call if call.asks() => question(case),
         _ => writer(case),
     }
@@ -30,6 +31,7 @@ fn writer(case: &Case) -> Outcome {
         Call::Convert => byte_calls::convert(*word, &words(first), &mut out),
         Call::ChangeSide => byte_calls::change_side(*side, first, &mut out),
         Call::Equation => byte_calls::equation(*side, first, *word, &case.second, &mut out),
+        Call::Unify => byte_calls::unify(*side, first, &case.second, &case.third, &mut out),
         Call::Join => byte_calls::join(*side, first, &case.second, &mut out),
         Call::Project => byte_calls::project(*side, first, *word, &mut out),
         _ => match state_of(case).running() {
@@ -83,7 +85,10 @@ fn step(case: &Case) -> Outcome {
     let given = *state_of(case);
     match given.running() {
         Ok(mut running) => {
-            let number = byte_calls::step(&mut running, case.word, &case.second);
+            let number = match case.call {
+                Call::Step => byte_calls::step(&mut running, case.word, &case.second),
+                _ => byte_calls::unify_step(&mut running, &case.second, &case.third),
+            };
             of_state(number, State::of(&running))
         }
         Err(refusal) => of_state(refusal.number(), given),

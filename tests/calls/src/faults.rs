@@ -1,6 +1,6 @@
 //! Ways to damage a call, each with the number that it is refused by where it stands alone.
 
-use crate::base::base_to_damage;
+use crate::base::{base_to_damage, give_terms};
 use crate::case::{Call, Case};
 use crate::expected::expected;
 use crate::full::Full;
@@ -41,6 +41,12 @@ pub enum Fault {
     TermRest,
     TermNone,
     TermOdd,
+    /// The same in the right one of two terms; those above are in the left one, or in both.
+    RightToken,
+    RightPart,
+    RightRest,
+    RightNone,
+    RightOdd,
     ManyEquations,
     EquationLeft,
     EquationToken,
@@ -72,13 +78,13 @@ impl Fault {
     /// The number of the refusal.
     pub fn number(self) -> u32 {
         match self {
-            Short(_) | Long(_) | Sizes(_) | TermOdd => 1,
+            Short(_) | Long(_) | Sizes(_) | TermOdd | RightOdd => 1,
             EquationsShort | EquationsLong | EquationsSizes => 1,
             Width(_) | ConvertWidth | StateWidth => 2,
             Count(_) | StateCount => 3,
             StrayBit(_) | StrayValue(_) | ConvertStray | StateStray | StateTail => 4,
-            Variable | Set | TermToken | EquationLeft | EquationToken => 5,
-            TermPart | TermRest | TermNone => 6,
+            Variable | Set | TermToken | RightToken | EquationLeft | EquationToken => 5,
+            TermPart | TermRest | TermNone | RightPart | RightRest | RightNone => 6,
             EquationPart | EquationRest | EquationNone | EquationSum => 6,
             TermLong | ManyEquations | ManyTokens => 7,
             Full => 8,
@@ -95,8 +101,10 @@ impl Fault {
             (Full, Unlike) => false,
             (StateCount, StateTail) => false,
             (TermLong | TermToken | TermPart | TermRest, TermNone) => false,
+            (TermLong | RightToken | RightPart | RightRest, RightNone) => false,
             // The rest could be the argument that is missing.
-            (TermPart, TermRest) | (EquationPart, EquationRest) => false,
+            (TermPart, TermRest) | (RightPart, RightRest) => false,
+            (EquationPart, EquationRest) => false,
             (EquationsShort, EquationsLong) => false,
             (earlier, EquationsSizes) => !earlier.is_of_equations(),
             (Short(a), Long(b)) => a != b,
@@ -124,7 +132,7 @@ impl Fault {
 pub fn faults_of(call: Call, negative: bool) -> Vec<Fault> {
     let mut faults = own_faults(call, negative);
     let both = matches!(call, Call::Join | Call::Equal | Call::Smaller);
-    if !matches!(call, Call::Convert | Call::Step | Call::Write) {
+    if call != Call::Convert && !call.takes_state() {
         faults.extend(table_faults(call, Which::First));
     }
     if both {
@@ -150,31 +158,35 @@ fn table_faults(call: Call, which: Which) -> Vec<Fault> {
 /// The faults of a call that are in no table's form.
 fn own_faults(call: Call, negative: bool) -> Vec<Fault> {
     let term = [TermLong, TermToken, TermPart, TermRest, TermNone, TermOdd];
+    let right = [RightToken, RightPart, RightRest, RightNone, RightOdd];
     let state = [StateCount, StateStray, StateTail, StateWidth];
     match call {
         Call::Read | Call::Pack | Call::Unpack => vec![Narrow],
         Call::Convert => vec![Full, Narrow, ConvertWidth, ConvertStray],
         Call::ChangeSide => vec![Full, Narrow],
         Call::Equation => [&[Full, Narrow, Variable], &term[..]].concat(),
+        Call::Unify => [&[Full, Narrow], &term[..], &right[..]].concat(),
         Call::Join => vec![Full, Narrow, Unlike],
         Call::Project if negative => vec![Full, Narrow, Keep],
         Call::Project => vec![Narrow, Keep],
         Call::Equal | Call::Smaller => vec![Unlike],
         Call::Ground => vec![Variable],
         Call::Independent => vec![Set],
-        Call::Run => equation_faults(),
+        Call::Run => [&[EquationLeft], &equation_faults()[..]].concat(),
+        Call::UnifyRun => equation_faults(),
         Call::Start => vec![],
         Call::Step => [&[Full, Variable], &term[..], &state[..]].concat(),
+        Call::UnifyStep => [&[Full], &term[..], &right[..], &state[..]].concat(),
         Call::Write => [&[Narrow], &state[..]].concat(),
     }
 }
 
+/// The faults of a form of equations. Where these have two terms, a fault is in either.
 fn equation_faults() -> Vec<Fault> {
     vec![
         Full,
         ManyEquations,
         ManyTokens,
-        EquationLeft,
         EquationToken,
         EquationPart,
         EquationRest,
@@ -228,8 +240,17 @@ fn put(fault: Fault, l: u32, case: &mut Case, random: &mut Random) {
             };
             form_faults::put(fault, bytes, random);
         }
+        TermLong if case.call.takes_two_terms() => {
+            give_terms(case, &term_faults::long_terms(l, random));
+        }
         TermLong | TermToken | TermPart | TermRest | TermNone | TermOdd => {
             term_faults::put(fault, l, &mut case.second, random);
+        }
+        RightToken | RightPart | RightRest | RightNone | RightOdd => {
+            term_faults::put(fault, l, &mut case.third, random);
+        }
+        _ if case.call == Call::UnifyRun => {
+            term_faults::put_in_term_equations(fault, l, &mut case.second, random);
         }
         _ => term_faults::put_in_equations(fault, l, &mut case.second, random),
     }

@@ -1,14 +1,15 @@
 //! Calls that need entry 257.
 
-use crate::base::{any_state, base_on};
+use crate::base::{any_state, base_on, give_terms};
 use crate::case::{Call, Case};
 use crate::expected::expected;
 use reference::entry::low_bits;
 use reference::forms::{bytes_of, words_of};
-use reference::{Entry, Table, ENTRIES};
+use reference::terms::head;
+use reference::{Entry, Table, TwoTerms, ENTRIES};
 use std::collections::BTreeMap;
 use support::tables::{form, Size, LONGEST};
-use support::{Equations, Random};
+use support::{Equations, Random, TermEquations};
 
 /// How many full calls of each kind are found at the start, to be used again and again.
 const FOUND: usize = 12;
@@ -31,6 +32,15 @@ impl Full {
             found.insert((Call::Step, negative), steps.collect());
             let runs = equations.iter().map(|case| run_of(case, random));
             found.insert((Call::Run, negative), runs.collect());
+            let pairs: Vec<Case> = equations
+                .iter()
+                .map(|case| unify_of(case, random))
+                .collect();
+            let steps = pairs.iter().map(|case| unify_step_of(case, random));
+            found.insert((Call::UnifyStep, negative), steps.collect());
+            let runs = pairs.iter().map(|case| unify_run_of(case, random));
+            found.insert((Call::UnifyRun, negative), runs.collect());
+            found.insert((Call::Unify, negative), pairs);
         }
         found.insert((Call::Project, true), find(Call::Project, true, random));
         Full(found)
@@ -206,6 +216,68 @@ pub fn run_of(equation: &Case, random: &mut Random) -> Case {
         some(earlier, &mut equations, random);
         equations.push(equation.word as u16, &words_of(&equation.second));
         some(random.below(3), &mut equations, random);
+        case.second = equations.bytes();
+        if expected(&case).number == 8 {
+            break;
+        }
+    }
+    case
+}
+
+/// Two terms whose walk finds the given full equation, with its variable on either side, and at
+/// times others before and after it.
+pub fn unify_of(equation: &Case, random: &mut Random) -> Case {
+    let l = table_of(&equation.first).l;
+    let mut case = equation.clone();
+    case.call = Call::Unify;
+    loop {
+        let arity = random.within(1, 4);
+        let mut sides = [(); 2].map(|()| vec![head(9, arity as u16)]);
+        let place = random.below(arity);
+        for k in 0..arity {
+            let (x, y, constant) = (random.variable(l), random.variable(l), head(k as u16, 0));
+            let swap = random.below(2);
+            if k == place {
+                sides[swap].push(equation.word as u16);
+                sides[1 - swap].extend(words_of(&equation.second));
+            } else {
+                let (s, t) = random.pick(&[(constant, constant), (x, y), (x, constant)]);
+                sides[swap].push(s);
+                sides[1 - swap].push(t);
+            }
+        }
+        let [left, right] = sides;
+        give_terms(&mut case, &TwoTerms { left, right });
+        if expected(&case).number == 8 {
+            return case;
+        }
+    }
+}
+
+/// The step of the same two terms from the same table, which is not grown first.
+pub fn unify_step_of(pair: &Case, random: &mut Random) -> Case {
+    let mut case = step_of(pair, random);
+    case.call = Call::UnifyStep;
+    case.third.clone_from(&pair.third);
+    case
+}
+
+/// A run that comes to the given full pair, or to another one before it.
+pub fn unify_run_of(pair: &Case, random: &mut Random) -> Case {
+    let l = table_of(&pair.first).l;
+    let mut case = Case::new(Call::UnifyRun);
+    (case.side, case.first) = (pair.side, pair.first.clone());
+    for earlier in [2, 1, 0] {
+        let mut equations = TermEquations::default();
+        for _ in 0..earlier {
+            let terms = random.terms_without_clash(l, 2, 3);
+            equations.push(&terms.left, &terms.right);
+        }
+        equations.push(&words_of(&pair.second), &words_of(&pair.third));
+        for _ in 0..random.below(3) {
+            let terms = random.two_terms_of(l, 2, 3);
+            equations.push(&terms.left, &terms.right);
+        }
         case.second = equations.bytes();
         if expected(&case).number == 8 {
             break;

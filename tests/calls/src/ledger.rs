@@ -2,6 +2,8 @@
 
 use crate::case::{Call, Case, Outcome, Part};
 use crate::faults::Fault;
+use reference::forms::words_of;
+use reference::unification::{walk, Clash, Term};
 use std::collections::BTreeMap;
 use support::answers::{Answers, NUMBERS};
 
@@ -12,7 +14,8 @@ type Row = (Call, bool);
 #[derive(Default)]
 struct Counts {
     numbers: Answers,
-    /// Questions: yes and no. The two-buffer call: part of the first, of the second, empty.
+    /// Questions: yes and no. The two-buffer call: part of the first, of the second, empty. Two
+    /// terms set equal: a clash, no equation, some.
     answers: [usize; 3],
 }
 
@@ -33,7 +36,7 @@ fn possible(call: Call, negative: bool) -> &'static [u32] {
         Call::Unpack => &[0, 1, 2, 3, 9, 12],
         Call::Convert => &[0, 2, 4, 8, 9],
         Call::ChangeSide => &[0, 1, 2, 3, 4, 8, 9],
-        Call::Equation => &[0, 1, 2, 3, 4, 5, 6, 7, 8, 9],
+        Call::Equation | Call::Unify => &[0, 1, 2, 3, 4, 5, 6, 7, 8, 9],
         Call::Join => &[0, 1, 2, 3, 4, 8, 9, 10],
         // At most 256 strings are cut on the positive side, so none of them is entry 257.
         Call::Project if negative => &[0, 1, 2, 3, 4, 8, 9, 11],
@@ -41,7 +44,8 @@ fn possible(call: Call, negative: bool) -> &'static [u32] {
         Call::Equal => &[0, 1, 2, 3, 4, 10],
         Call::Ground | Call::Independent => &[0, 1, 2, 3, 4, 5],
         Call::Smaller => &[0],
-        Call::Run | Call::Step => &[0, 1, 2, 3, 4, 5, 6, 7, 8],
+        Call::Run | Call::UnifyRun => &[0, 1, 2, 3, 4, 5, 6, 7, 8],
+        Call::Step | Call::UnifyStep => &[0, 1, 2, 3, 4, 5, 6, 7, 8],
         Call::Start => &[0, 1, 2, 3, 4],
         Call::Write => &[0, 2, 3, 4, 9],
     }
@@ -82,6 +86,9 @@ impl Ledger {
             Part::None if case.call.asks() && outcome.number == 0 => {
                 counts.answers[usize::from(outcome.out[0] == 0)] += 1;
             }
+            Part::None if case.call.takes_two_terms() && outcome.number == 0 => {
+                counts.answers[walked(case)] += 1;
+            }
             Part::None | Part::Elsewhere(_) => {}
             Part::First(..) => counts.answers[0] += 1,
             Part::Second(..) => counts.answers[1] += 1,
@@ -120,6 +127,14 @@ impl Ledger {
         for (row, counts) in self.rows.iter().filter(|((call, _), _)| call.asks()) {
             let [yes, no, _] = counts.answers;
             println!("{:<15}{yes:>8} yes {no:>8} no", title(*row));
+        }
+        let walks = self.rows.iter();
+        for (row, counts) in walks.filter(|((call, _), _)| call.takes_two_terms()) {
+            let [clash, none, some] = counts.answers;
+            println!(
+                "{:<15}{clash:>8} clash {none:>8} find no equation {some:>8} find some",
+                title(*row)
+            );
         }
         if let Some(counts) = self.rows.get(&(Call::Smaller, false)) {
             let [first, second, empty] = counts.answers;
@@ -168,10 +183,21 @@ impl Ledger {
     }
 }
 
+/// What the walk of two accepted terms comes to: a clash, no equation, some.
+fn walked(case: &Case) -> usize {
+    let [left, right] = [&case.second, &case.third].map(|row| Term::of(&words_of(row)));
+    match walk(&left, &right) {
+        Err(Clash) => 0,
+        Ok(found) if found.is_empty() => 1,
+        Ok(_) => 2,
+    }
+}
+
 /// How many kinds of answers a call has besides its number.
 fn answers(call: Call) -> usize {
     match call {
         Call::Smaller => 3,
+        _ if call.takes_two_terms() => 3,
         _ if call.asks() => 2,
         _ => 0,
     }

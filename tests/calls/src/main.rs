@@ -22,8 +22,10 @@ mod sequences;
 mod stream;
 mod term_faults;
 mod tester;
+mod two_ways;
 mod twos;
 mod valid;
+mod walks;
 mod word_faults;
 
 use full::Full;
@@ -67,5 +69,7 @@ fn check_all(tester: &mut Tester) -> Checked<()> {
     noise::check(tester)?;
     twos::check(tester)?;
     packed::check(tester)?;
+    walks::check(tester, &full)?;
+    two_ways::check(tester)?;
     sequences::check(tester, &full)
 }

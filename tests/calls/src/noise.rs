@@ -39,6 +39,7 @@ fn make_noise(case: &mut Case, random: &mut Random) {
         _ => case.first = noise(random),
     }
     case.second = noise(random);
+    case.third = noise(random);
     if case.call.writes_form() {
         let len = random.below(80);
         case.out = random.bytes(len);
@@ -99,6 +100,7 @@ fn packed_noise(random: &mut Random) -> Vec<u8> {
 fn change(case: &mut Case, random: &mut Random) {
     let row = match random.below(2) {
         0 if case.call != Call::Convert => &mut case.first,
+        1 if case.call.takes_two_terms() && random.percent(50) => &mut case.third,
         _ => &mut case.second,
     };
     let place = random.below(row.len().max(1));

@@ -1,6 +1,6 @@
 //! Sequences of calls: what one call leaves is what the next one gets.
 
-use crate::base::base_on;
+use crate::base::{base_on, give_terms};
 use crate::case::{Call, Case, Outcome};
 use crate::faults::Fault;
 use crate::full::{table_of, Full};
@@ -33,8 +33,10 @@ fn running(tester: &mut Tester, negative: bool, size: Size, random: &mut Random)
     let mut sound = state.clone();
     for _ in 0..random.within(4, 24) {
         state = match random.below(20) {
-            0..=9 => step(tester, &state, &[], random)?,
-            10..=13 => refused_step(tester, &state, random)?,
+            0..=4 => step(tester, &state, &[], random)?,
+            5..=9 => unify_step(tester, &state, &[], random)?,
+            10 | 11 => refused_step(tester, &state, random)?,
+            12 | 13 => refused_unify_step(tester, &state, random)?,
             14..=16 => write(tester, &state, random)?,
             17 => damage(tester, &state, random)?,
             18 => sound.clone(),
@@ -98,6 +100,50 @@ fn refused_step(tester: &mut Tester, state: &State, random: &mut Random) -> Chec
     step(tester, state, &[fault], random)
 }
 
+/// Two terms set equal in a state, with some faults in them. Few clash: after a clash the table
+/// stays without groups.
+fn unify_step(
+    tester: &mut Tester,
+    state: &State,
+    faults: &[Fault],
+    random: &mut Random,
+) -> Checked<Box<State>> {
+    let mut case = Case::new(Call::UnifyStep);
+    let l = state.table.l.clamp(1, 16);
+    case.state = Some(Box::new(*state));
+    let (left, right) = (random.within(1, 6), random.within(1, 6));
+    let terms = match random.below(10) {
+        0 => random.two_terms_of(l, left, right),
+        _ => random.terms_without_clash(l, left, right),
+    };
+    give_terms(&mut case, &terms);
+    for &fault in faults {
+        let row = match fault {
+            Fault::RightToken | Fault::RightPart | Fault::RightNone => &mut case.third,
+            _ => &mut case.second,
+        };
+        term_faults::put(fault, l, row, random);
+    }
+    tester.check(&case).map(state_after)
+}
+
+fn refused_unify_step(
+    tester: &mut Tester,
+    state: &State,
+    random: &mut Random,
+) -> Checked<Box<State>> {
+    let fault = random.pick(&[
+        Fault::TermLong,
+        Fault::TermToken,
+        Fault::TermRest,
+        Fault::TermOdd,
+        Fault::RightToken,
+        Fault::RightPart,
+        Fault::RightNone,
+    ]);
+    unify_step(tester, state, &[fault], random)
+}
+
 /// Writes the table of a state, into an output of any length.
 fn write(tester: &mut Tester, state: &State, random: &mut Random) -> Checked<Box<State>> {
     let mut case = Case::new(Call::Write);
@@ -135,7 +181,8 @@ fn chain(tester: &mut Tester, negative: bool, size: Size, random: &mut Random) -
         let call = random.pick(&[
             Call::Equation,
             Call::Equation,
-            Call::Equation,
+            Call::Unify,
+            Call::Unify,
             Call::Join,
             Call::Project,
             Call::ChangeSide,
@@ -183,7 +230,16 @@ fn after_full(
     let state = write(tester, &state, random)?;
     let state = refused_step(tester, &state, random)?;
     step(tester, &state, &[], random)?;
-    let run = full.case(Call::Run, negative, random);
-    let state = state_after(tester.check(&run)?);
-    step(tester, &state, &[], random).map(drop)
+    for call in [Call::Run, Call::UnifyRun] {
+        let run = full.case(call, negative, random);
+        let state = state_after(tester.check(&run)?);
+        let state = step(tester, &state, &[], random)?;
+        unify_step(tester, &state, &[], random)?;
+    }
+    let mut case = full.case(Call::UnifyStep, negative, random);
+    case.state = Some(state_after(tester.check(&case)?));
+    let state = state_after(tester.check(&case)?);
+    let state = write(tester, &state, random)?;
+    let state = refused_unify_step(tester, &state, random)?;
+    unify_step(tester, &state, &[], random).map(drop)
 }

@@ -10,7 +10,7 @@ pub fn write(case: &Case, outcome: &Outcome) -> io::Result<()> {
     let mut record = Vec::new();
     let numbers = [case.call as u32, case.side, case.word, case.other];
     record.extend(numbers.into_iter().flat_map(u32::to_le_bytes));
-    for row in [&case.first, &case.second, &case.out] {
+    for row in [&case.first, &case.second, &case.third, &case.out] {
         push_row(&mut record, row);
     }
     push_row(&mut record, &state_bytes(case.state.as_deref()));

@@ -74,6 +74,7 @@ fn difference(case: &Case, plain: &Outcome, ours: &Result<Outcome, String>) -> S
     let _ = writeln!(text, "side {side} word {word} other {other}");
     let _ = writeln!(text, "first    {}", hex(&case.first));
     let _ = writeln!(text, "second   {}", hex(&case.second));
+    let _ = writeln!(text, "third    {}", hex(&case.third));
     let _ = writeln!(text, "held     {}", hex(&case.out));
     if let Some(state) = &case.state {
         let _ = writeln!(text, "state    {}", state_text(state));

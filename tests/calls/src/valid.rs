@@ -10,7 +10,8 @@ use support::{Checked, Random};
 
 /// How many calls of each kind on tables of each size: those that take long are fewer.
 fn times(call: Call, negative: bool, size: Size) -> usize {
-    let long = matches!(call, Call::Equation | Call::Step | Call::Run);
+    let long = matches!(call, Call::Equation | Call::Step | Call::Run)
+        || matches!(call, Call::Unify | Call::UnifyStep | Call::UnifyRun);
     let list = long || matches!(call, Call::ChangeSide | Call::Project);
     match size {
         Size::Light => 6000,

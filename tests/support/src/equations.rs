@@ -2,7 +2,7 @@
 
 use crate::random::Random;
 use reference::forms::{bytes_of, words_of, EQUATIONS};
-use reference::terms::{head, TOKENS};
+use reference::terms::{head, is_head, TOKENS};
 
 /// The numbers of an equations' form.
 #[derive(Clone, Default)]
@@ -67,6 +67,15 @@ impl Random {
         let mut term = Vec::with_capacity(size);
         let widest = self.pick(&[1, 2, 4, 15]);
         self.fill_term(l, size, widest, &mut term);
+        term
+    }
+
+    /// The same without variables.
+    pub fn ground_term_of(&mut self, size: usize) -> Vec<u16> {
+        let mut term = self.term_of(1, size);
+        for token in term.iter_mut().filter(|token| !is_head(**token)) {
+            *token = head(*token, 0);
+        }
         term
     }
 

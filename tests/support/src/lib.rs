@@ -6,10 +6,12 @@ pub mod equations;
 pub mod library;
 pub mod random;
 pub mod tables;
+pub mod two_terms;
 
 pub use answers::Answers;
 pub use equations::Equations;
 pub use random::Random;
+pub use two_terms::TermEquations;
 
 use std::process::ExitCode;
 

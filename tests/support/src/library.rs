@@ -53,6 +53,17 @@ extern "C" {
         out: Out,
         out_len: usize,
     ) -> u32;
+    pub fn sharing_unify(
+        side: u32,
+        table: In,
+        len: usize,
+        left: In,
+        left_len: usize,
+        right: In,
+        right_len: usize,
+        out: Out,
+        out_len: usize,
+    ) -> u32;
     pub fn sharing_join(
         side: u32,
         first: In,
@@ -101,8 +112,22 @@ extern "C" {
         equations: In,
         equations_len: usize,
     ) -> State;
+    pub fn sharing_unify_run(
+        side: u32,
+        table: In,
+        len: usize,
+        equations: In,
+        equations_len: usize,
+    ) -> State;
     pub fn sharing_start(side: u32, table: In, len: usize) -> State;
     pub fn sharing_step(state: *mut State, variable: u32, term: In, term_len: usize) -> u32;
+    pub fn sharing_unify_step(
+        state: *mut State,
+        left: In,
+        left_len: usize,
+        right: In,
+        right_len: usize,
+    ) -> u32;
     pub fn sharing_write(state: *const State, out: Out, out_len: usize) -> u32;
 }
 
