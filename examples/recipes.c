@@ -24,6 +24,17 @@ static void need(uint32_t code) {
     }
 }
 
+/* A term as a row of tokens. */
+typedef struct { uint8_t bytes[2 * SHARING_MAX_TOKENS]; size_t len; } row;
+#define TERM(row) (row).bytes, (row).len
+
+static row row_of(const uint32_t *tokens, size_t n) {
+    row made = {{0}, 2 * n};
+    for (size_t i = 0; i < n; i++)
+        sharing_put_word(made.bytes, i, tokens[i]);
+    return made;
+}
+
 /* A line of text, then the entries of a table. */
 static void show(const char *what, form table) {
     char text[SHARING_MAX_VARIABLES + 1];
@@ -187,15 +198,31 @@ static void recursion(void) {
     }
 }
 
-/* 8. An equation of two terms, g(X1) = h(X2, X3): X4 is equal to both. */
+/* 8. An equation of two terms, f(X1, g(X2)) = f(X3, X4). */
 static void two_terms(void) {
-    form before = table_of("100 010 001"), wider, first, second, after;
-    printf("\n8. A left side that is no variable, g(X1) = h(X2, X3)\n");
+    enum { A = 1, F, G };
+    form before = table_of("1000 0100 0010 0001"), after, failed;
+    printf("\n8. A left side that is no variable, f(X1, g(X2)) = f(X3, X4)\n");
+    const uint32_t left_tokens[] = {sharing_head(F, 2), 1, sharing_head(G, 1), 2};
+    const uint32_t right_tokens[] = {sharing_head(F, 2), 3, 4};
+    row left = row_of(left_tokens, 4), right = row_of(right_tokens, 3);
+    need(sharing_unify(POSITIVE(before), TERM(left), TERM(right), OUT(after)));
+    show("after it: X1 = X3, then X4 = g(X2)", after);
+
+    /* f(X1, g(X2)) = f(X3, a): g/1 against a/0. */
+    const uint32_t other_tokens[] = {sharing_head(F, 2), 3, sharing_head(A, 0)};
+    row other = row_of(other_tokens, 3);
+    need(sharing_unify(POSITIVE(before), TERM(left), TERM(other), OUT(failed)));
+    int clash = sharing_terms_clash(TERM(left), TERM(other));
+    show(clash ? "after f(X1, g(X2)) = f(X3, a), a clash" : "no clash", failed);
+
+    /* Only the sets of variables are known: X5 is equal to both sides. */
+    form wider, first, second;
     need(sharing_add_free(TABLE(before), 1, OUT(wider)));
-    need(sharing_set_equation(POSITIVE(wider), 4, 1u << 0, OUT(first)));
-    need(sharing_set_equation(POSITIVE(first), 4, 1u << 1 | 1u << 2, OUT(second)));
-    need(sharing_project(POSITIVE(second), sharing_variables(3), OUT(after)));
-    show("after X4 = g(X1), X4 = h(X2, X3), without X4", after);
+    need(sharing_set_equation(POSITIVE(wider), 5, 1u << 0 | 1u << 1, OUT(first)));
+    need(sharing_set_equation(POSITIVE(first), 5, 1u << 2 | 1u << 3, OUT(second)));
+    need(sharing_project(POSITIVE(second), sharing_variables(4), OUT(after)));
+    show("after X5 = f(X1, g(X2)), X5 = f(X3, X4)", after);
 }
 
 /* 9. A constant is a head of arity 0. A goal of arity 0 names no variable and changes nothing. */
@@ -215,7 +242,7 @@ static void arity_zero(void) {
     show("no variables: a table of one that is known", none);
 }
 
-/* 10. Symbols are not compared: f(X2) and g(X2) give the same table. */
+/* 10. Across from a variable symbols do not matter: f(X2) and g(X2) give the same table. */
 static void symbols(void) {
     form before = table_of("100 010 001"), one, other;
     uint8_t term[4];

@@ -57,6 +57,28 @@
  *     5   token by token, to the last one: a variable that is not 1 to l
  *     6   the tokens are not one whole term; no tokens at all are 6 too
  *
+ * Two terms set equal
+ *   In an equation "left = right" of two terms either may be compound, a constant or a variable.
+ *   They are walked together, arguments left to right: a variable on the left makes an equation
+ *   with the term across, else a variable on the right does; heads of equal symbol and arity go
+ *   down to their arguments; anything else is a clash. So f(X1, g(X2)) = f(X3, X4) is X1 = X3 and
+ *   then X4 = g(X2).
+ *   The walk is finished before anything is applied. Then the equations that it found are applied
+ *   in order, each to what the last one gave, as sharing_equation does it; one that needs entry
+ *   257 refuses the whole call 8. Where none was found, as in a = a, the table stays as it is.
+ *   After a clash, wherever it stands, the table has no group: it has no entry if it is positive
+ *   and one entry of stars if it is negative. Such a call is accepted, never 8. The equation has
+ *   failed, and no bindings go on from it.
+ *
+ *   TWO TERMS below stands for these refusals, in this order:
+ *     7   more than 1024 tokens together: half of each length, rounded down, then added
+ *     1   the length of left is odd
+ *     1   the length of right is odd
+ *     5   token by token of left, to the last one: a variable that is not 1 to l
+ *     6   the tokens of left are not one whole term; no tokens at all are 6 too
+ *     5   the same of right
+ *     6   the same of right
+ *
  * Rules for every call
  *   - A call that returns a number returns 0 where it is accepted, else the number of the first
  *     refusal that it meets. It then has written nothing.
@@ -87,9 +109,8 @@
  *
  * Stack
  *   256 KiB are enough for any call. Measured on the library as shipped, not proved:
- *     sharing_equation, sharing_run, sharing_step, by the tokens of the term, however they nest
- *       up to 64 tokens    64 KiB
- *       128                72 KiB
+ *     calls with a term, by its tokens, and calls with two, by those of both, however they nest
+ *       up to 128 tokens   72 KiB
  *       256                88 KiB
  *       512               120 KiB
  *       1024              184 KiB
@@ -103,7 +124,7 @@
 
 /* The version, which stands here and nowhere else, as numbers and as text. */
 #define SHARING_VERSION_MAJOR 0
-#define SHARING_VERSION_MINOR 2
+#define SHARING_VERSION_MINOR 3
 #define SHARING_VERSION_PATCH 0
 #define SHARING_VERSION                                                                            \
     SHARING_QUOTED(SHARING_VERSION_MAJOR)                                                          \
@@ -237,6 +258,17 @@ uint32_t sharing_equation(uint32_t side, const uint8_t *table, size_t table_len,
                           const uint8_t *term, size_t term_len, uint8_t *out, size_t out_len);
 
 /*
+ * The table after the equation "left = right" of two terms: see "Two terms set equal" above.
+ * Reads table, left and right. Writes the form, of the same side, to out.
+ * Refusals in order: TABLE FORM; TWO TERMS; 8; 9.
+ * After a refusal: out is as it was.
+ */
+SHARING_MUST_USE
+uint32_t sharing_unify(uint32_t side, const uint8_t *table, size_t table_len, const uint8_t *left,
+                       size_t left_len, const uint8_t *right, size_t right_len, uint8_t *out,
+                       size_t out_len);
+
+/*
  * The join of two tables of one side: the groups of both together.
  * Reads first and second. Writes the form, of the same side, to out.
  * Refusals in order: TABLE FORM of first; TABLE FORM of second; 10 where their l differ; 8; 9.
@@ -319,6 +351,22 @@ sharing_running sharing_run(uint32_t side, const uint8_t *table, size_t table_le
                             const uint8_t *equations, size_t equations_len);
 
 /*
+ * A run of equations of two terms.
+ * Reads table and equations. The form of equations is 16-bit numbers, low byte first: e, m, then
+ * the e token counts of left sides, then those of right sides, which sum to m together, then m
+ * tokens: of each equation its left side, then its right; 4 + 4e + 2m bytes. A good form of either
+ * run is refused 6 by the other one, unless e is 0.
+ * Returns the state after the run, as sharing_run does; an equation with a clash is accepted.
+ * Refusals in order: TABLE FORM; then of equations: 1 where there are fewer than 4 bytes; 7 where e
+ * is above 64 or m above 1024; 1 where the length is not 4 + 4e + 2m; 6 where all counts together
+ * do not sum to m; then equation by equation, of the left side and then of the right: 5 where a
+ * token is a variable not 1 to l, 6 where the tokens are not one whole term; then 8.
+ */
+SHARING_MUST_USE
+sharing_running sharing_unify_run(uint32_t side, const uint8_t *table, size_t table_len,
+                                  const uint8_t *equations, size_t equations_len);
+
+/*
  * Starts a running analysis.
  * Reads table. Returns a state with the table as read, `applied` 0 and `code` 0.
  * Refusals in order, in `code`: TABLE FORM.
@@ -339,6 +387,18 @@ sharing_running sharing_start(uint32_t side, const uint8_t *table, size_t table_
 SHARING_MUST_USE
 uint32_t sharing_step(sharing_running *state, uint32_t variable, const uint8_t *term,
                       size_t term_len);
+
+/*
+ * One more equation of a running analysis, "left = right" of two terms: see "Two terms set equal"
+ * above. The two kinds of steps may be mixed.
+ * Reads *state, left and right. Writes *state: its table after the equation, `applied` one more,
+ * however many equations the walk found, and `code` 0.
+ * Refusals in order, of the table in *state: 2, 3, 4 as in sharing_step; then TWO TERMS; 8.
+ * After a refusal: the whole of *state is as it was, `code` too; the number is only returned.
+ */
+SHARING_MUST_USE
+uint32_t sharing_unify_step(sharing_running *state, const uint8_t *left, size_t left_len,
+                            const uint8_t *right, size_t right_len);
 
 /*
  * Writes the table of a running analysis as a form.

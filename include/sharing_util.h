@@ -264,6 +264,96 @@ static inline const char *sharing_refusal_sentence(uint32_t code) {
                                                          : "no answer of the calls";
 }
 
+/* ---- Two terms: what sharing_unify finds in them, for those who want to see or to tell it */
+
+/* The length in bytes of the term at the front of a row of tokens; 0 where it is not whole. */
+static inline size_t sharing_term_length(const uint8_t *row, size_t row_len) {
+    size_t due = 1, place = 0;
+    for (; due > 0 && place < row_len / 2; place++) {
+        uint32_t token = sharing_word_at(row, place);
+        due += (token & 0x8000u) != 0 ? token & 0xfu : 0;
+        due--;
+    }
+    return due > 0 ? 0 : 2 * place;
+}
+
+/* What the walk of two terms comes to next. */
+enum { SHARING_WALK_END = 0, SHARING_WALK_EQUATION = 1, SHARING_WALK_CLASH = 2 };
+
+/* A walk: what of both terms is still ahead. It begins with the whole of both. */
+typedef struct {
+    const uint8_t *left;
+    size_t left_len;
+    const uint8_t *right;
+    size_t right_len;
+} sharing_walk;
+
+/* An equation that a walk finds. Its term is a part of one of the two terms. */
+typedef struct {
+    uint32_t variable;
+    const uint8_t *term;
+    size_t term_len;
+} sharing_found;
+
+/* Goes on behind so many bytes of each term. */
+static inline void sharing_walk_on(sharing_walk *walk, size_t left_len, size_t right_len) {
+    walk->left += left_len;
+    walk->left_len -= left_len;
+    walk->right += right_len;
+    walk->right_len -= right_len;
+}
+
+/* Finds an equation between a variable and the term at the front of a row. */
+static inline sharing_found sharing_found_here(uint32_t variable, const uint8_t *row,
+                                               size_t row_len) {
+    sharing_found found;
+    found.variable = variable;
+    found.term = row;
+    found.term_len = sharing_term_length(row, row_len);
+    return found;
+}
+
+/*
+ * The next step of the walk of two terms that sharing_unify accepts; called again and again it
+ * gives the equations that this call applies, in their order. At an equation *found is written and
+ * the walk goes on behind it. At a clash the walk stays: the two heads that differ stand first in
+ * what is ahead. Of terms that are not whole it reads no byte past their end.
+ */
+static inline uint32_t sharing_walk_next(sharing_walk *walk, sharing_found *found) {
+    while (walk->left_len > 1 && walk->right_len > 1) {
+        uint32_t s = sharing_word_at(walk->left, 0), t = sharing_word_at(walk->right, 0);
+        if ((s & 0x8000u) == 0) {
+            *found = sharing_found_here(s, walk->right, walk->right_len);
+            sharing_walk_on(walk, 2, found->term_len);
+            return SHARING_WALK_EQUATION;
+        }
+        if ((t & 0x8000u) == 0) {
+            *found = sharing_found_here(t, walk->left, walk->left_len);
+            sharing_walk_on(walk, found->term_len, 2);
+            return SHARING_WALK_EQUATION;
+        }
+        if (s != t)
+            return SHARING_WALK_CLASH;
+        sharing_walk_on(walk, 2, 2);
+    }
+    return SHARING_WALK_END;
+}
+
+/*
+ * Do two terms that sharing_unify accepts clash? The table after it has no group then; but a table
+ * without groups does not say why it has none.
+ */
+static inline int sharing_terms_clash(const uint8_t *left, size_t left_len, const uint8_t *right,
+                                      size_t right_len) {
+    sharing_walk walk = {left, left_len, right, right_len};
+    sharing_found found;
+    uint32_t met;
+    do
+        met = sharing_walk_next(&walk, &found);
+    while (met == SHARING_WALK_EQUATION);
+    return met == SHARING_WALK_CLASH;
+}
+
 /* ---- Renaming */
 
 /* The set of old variables that more than one new position takes. */

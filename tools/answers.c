@@ -61,16 +61,40 @@ static void put_absent(FILE *to, const rules *given) {
               : " are in no group at the start: they count as known", to);
 }
 
+/* Says which equation clashed before a point: every answer there rests on that. */
+static void put_clashed(FILE *to, const rules *given) {
+    fprintf(to, "equation %zu clashes, ", given->clash);
+    put_clash(to, given, given->clash - 1);
+    fputs(": no bindings go on from it", to);
+}
+
+/* In brackets what an answer at a point rests on, after what is said first of all, or NULL. */
+static void put_notes(const point *at, const char *first) {
+    const rules *given = at->given;
+    bool clash = given->clash != 0 && given->clash <= at->after;
+    const char *before = " (";
+    if (first != NULL) {
+        printf("%s%s", before, first);
+        before = "; ";
+    }
+    if (clash) {
+        fputs(before, stdout);
+        put_clashed(stdout, given);
+        before = "; ";
+    }
+    if (given->absent != 0) {
+        fputs(before, stdout);
+        put_absent(stdout, given);
+    }
+    if (first != NULL || clash || given->absent != 0)
+        putchar(')');
+}
+
 /* The heading of what is known at a point. */
 void put_heading(const char *what, const point *at) {
-    const rules *given = at->given;
     printf("%s ", what);
-    put_point(stdout, given, at->after);
-    if (given->absent != 0) {
-        fputs(" (", stdout);
-        put_absent(stdout, given);
-        putchar(')');
-    }
+    put_point(stdout, at->given, at->after);
+    put_notes(at, NULL);
     putchar(':');
 }
 
@@ -135,9 +159,12 @@ static void tell_full(const point *before) {
 bool reach(const rules *given, size_t after, point *out) {
     uint8_t table[SHARING_MAX_FORM], equations[MOST_EQUATIONS_FORM];
     size_t table_len = write_table(given, table);
-    size_t equations_len = write_equations(given, after, equations);
+    size_t equations_len = given->compound ? write_term_equations(given, after, equations)
+                                           : write_equations(given, after, equations);
     sharing_running state =
-        sharing_run(SHARING_POSITIVE, table, table_len, equations, equations_len);
+        given->compound
+            ? sharing_unify_run(SHARING_POSITIVE, table, table_len, equations, equations_len)
+            : sharing_run(SHARING_POSITIVE, table, table_len, equations, equations_len);
     if (state.code != SHARING_FULL && !accepted(given, state.code))
         return false;
     out->given = given;
@@ -168,6 +195,8 @@ rules *open_rules(const char *path) {
         put_piece(stderr, given->variable[i]);
         fputs(" is in no group: it counts as known\n", stderr);
     }
+    for (size_t i = given->equations; i-- > 0;)
+        given->clash = clashes(given, i) ? i + 1 : given->clash;
     return given;
 }
 
@@ -186,13 +215,7 @@ static int answer(const point *at, const piece names[2], const uint32_t goals[2]
     put_piece(stdout, names[1]);
     printf(": %s side by side ", yes ? "may run" : "may not run");
     put_point(stdout, given, at->after);
-    if (!yes || given->absent != 0) {
-        fputs(yes ? " (" : " (they may share a variable", stdout);
-        fputs(!yes && given->absent != 0 ? "; " : "", stdout);
-        if (given->absent != 0)
-            put_absent(stdout, given);
-        fputc(')', stdout);
-    }
+    put_notes(at, yes ? NULL : "they may share a variable");
     putchar('\n');
     return yes ? STATUS_YES : STATUS_NO;
 }

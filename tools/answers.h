@@ -28,6 +28,11 @@ int show(const rules *given);
 int write_form(const rules *given, size_t after, bool packed);
 int write_text(const char *path, bool packed);
 
+bool clashes(const rules *given, size_t i);
+void put_clash(FILE *to, const rules *given, size_t i);
+void tell_clashes(const rules *given, size_t count);
+int explain_file(const rules *given);
+
 void explain_number(FILE *to, uint32_t number);
 int explain(void);
 

@@ -23,7 +23,8 @@ static const char *const meanings[] = {
         "`sharetext input` writes none such; look at what else wrote the input.",
     [SHARING_TERM] =
         "term: the token counts do not sum up, or the tokens of an equation are not one whole "
-        "term. `sharetext input` writes none such; look at what else wrote the input.",
+        "term. `sharetext input` writes none such without --unify, which is not for sharerun; look "
+        "at what else wrote the input.",
     [SHARING_LONG] =
         "long: there are more than 64 equations, or more than 1024 variables and symbols in their "
         "terms. `sharetext input` writes none such; look at what else wrote the input.",

@@ -5,8 +5,8 @@
 
 /* The usage in short. */
 void print_usage(FILE *to) {
-    fputs("usage: sharetext input FILE\n"
-          "       sharetext explain\n"
+    fputs("usage: sharetext input FILE [--unify]\n"
+          "       sharetext explain [FILE]\n"
           "       sharetext apart FILE GOAL GOAL [--after N]\n"
           "       sharetext pairs FILE [--after N]\n"
           "       sharetext tables FILE\n"
@@ -27,7 +27,9 @@ static const char *const commands =
     "\n"
     "Commands\n"
     "  input FILE             writes the input of the program sharerun\n"
-    "  explain                copies the output of sharerun and adds words to a refusal\n"
+    "  explain                copies the output of sharerun and adds words to a refusal; with\n"
+    "                         FILE it says of each equation of the file what is found in it, or\n"
+    "                         that it clashes or is full\n"
     "  apart FILE GOAL GOAL   may the two goals run side by side?\n"
     "  pairs FILE             the same for each pair of the variables of the line vars\n"
     "  tables FILE            the table before the first equation and after each one: its\n"
@@ -54,7 +56,10 @@ static const char *const commands =
     "  --after N   asks after the first N equations: 0 is before the first one. Without it the\n"
     "              question is asked after the last one. The answer's line says which point it\n"
     "              holds at.\n"
-    "  --packed    form writes and text reads the packed form, five positions to a byte.\n";
+    "  --packed    form writes and text reads the packed form, five positions to a byte.\n"
+    "  --unify     input writes both sides of each equation as terms, as the call\n"
+    "              sharing_unify_run reads them. Without it a variable must be on one side, since\n"
+    "              sharerun reads no other equations.\n";
 
 static const char *const file_lines =
     "\n"
@@ -86,13 +91,15 @@ static const char *const file_terms =
     "                        backslash\n"
     "    1870, -3, 2.5e6     a number, as a constant that is known by its text\n"
     "    [], [a, X | T]      a list\n"
-    "  One side of an equation is a variable: f(X) = Y is taken as Y = f(X). In place of\n"
-    "  f(X) = g(Y) write New = f(X) and New = g(Y), with a further variable New that is free.\n"
+    "  Each side of an equation is a term. f(X) = Y is Y = f(X). Two sides that both begin with a\n"
+    "  symbol are walked together, arguments left to right, and the equations that are found are\n"
+    "  applied in that order: f(X, g(Y)) = f(Z, W) is X = Z and then W = g(Y). It counts as one.\n"
     "  Operators, as in X is Y + 1 or a:b, are not supported.\n"
     "\n"
     "  There are at most 16 variables, 256 entries (one for each free variable and each _\n"
     "  counted), 64 equations, and 1024 variables and symbols in their terms; a list counts one\n"
-    "  for each element and one for its end besides the elements.\n";
+    "  for each element and one for its end besides the elements. A variable that is a side by\n"
+    "  itself counts only where some equation has a variable on neither side.\n";
 
 static const char *const free_and_full =
     "\n"
@@ -101,6 +108,13 @@ static const char *const free_and_full =
     "  is left in it. Where an entry was forgotten, an answer that goals may run side by side can\n"
     "  then be wrong, also for goals on other variables. So each command that reads a file says\n"
     "  it on standard error, and each answer says it in its line.\n"
+    "\n"
+    "Clashes\n"
+    "  Where two symbols stand across from each other in the two sides of an equation, or one\n"
+    "  symbol with two numbers of arguments, the equation clashes: it fails, no bindings go on\n"
+    "  from it, and the table is empty after it. A command that asks after it says so on standard\n"
+    "  error, with the place and with what stands across, such as f/2 against g/1, and each answer\n"
+    "  says it in its line. A clash comes before all else in its equation, which is never full.\n"
     "\n"
     "Full equations\n"
     "  An equation that needs a table of more than 256 entries is full. Then no answer is given\n"
@@ -122,7 +136,7 @@ static const char *const free_and_full =
     "\n"
     "Exit status\n"
     "  0  done; for apart: the goals may run side by side\n"
-    "  1  for apart: they may not; for explain: there was a refusal\n"
+    "  1  for apart: they may not; for explain: there was a refusal, a clash or a full equation\n"
     "  2  a mistake in the file or in the arguments, a form that is refused, or no answer because\n"
     "     an equation is full\n";
 

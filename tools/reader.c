@@ -258,36 +258,22 @@ static bool read_equals(reader *r) {
     return true;
 }
 
-/* An equation of two terms that are not variables has no place in the written form. */
-static bool neither(const reader *r, piece left, piece right) {
-    piece both = between(left.at, right.at + right.len);
-    tell(&r->where, both, "Neither side of the equation is a variable.");
-    fputs("    Expected: a variable, which begins with a capital letter or an underscore, on one "
-          "side.\n", stderr);
-    fprintf(stderr, "    Or add a variable to line %lu, here New, make it free, and write two "
-                    "equations: New = ", r->out->vars_line);
-    put_piece(stderr, left);
-    fputs(" and New = ", stderr);
-    put_piece(stderr, right);
-    fputs(".\n", stderr);
-    return false;
-}
-
-/* Both sides of an equation. One such as f(X1) = X2 is taken the other way round. */
-static bool read_sides(reader *r, uint32_t *left) {
-    const uint8_t *start = r->rest.at;
-    piece first;
-    if (starts_variable(peek(&r->rest)))
-        return read_variable(r, left) && read_equals(r) && read_term(r);
+/* Both sides of an equation, each a variable or a term with a head. */
+static bool read_sides(reader *r, equation *next) {
+    rules *out = r->out;
+    next->first = out->tokens;
+    r->variable = starts_variable(peek(&r->rest));
     if (!read_term(r))
         return false;
-    first = between(start, r->rest.at);
+    next->left = out->tokens - next->first;
     if (!read_equals(r))
         return false;
-    if (starts_variable(peek(&r->rest)))
-        return read_variable(r, left);
-    start = r->rest.at;
-    return read_term(r) && neither(r, first, between(start, r->rest.at));
+    r->variable = r->variable || starts_variable(peek(&r->rest));
+    out->compound = out->compound || !r->variable;
+    if (!read_term(r))
+        return false;
+    next->right = out->tokens - next->first - next->left;
+    return true;
 }
 
 /* Nothing but a full stop and a comment follows an equation. */
@@ -306,18 +292,16 @@ static bool read_equation(reader *r) {
     rules *out = r->out;
     equation *next = &out->equation[out->equations];
     const uint8_t *start = r->rest.at;
-    size_t before = out->tokens;
     if (out->equations == SHARING_MAX_EQUATIONS) {
         tell(&r->where, piece_here(r->rest), "There are more than %d equations.",
              SHARING_MAX_EQUATIONS);
         expected("at most %d equations", SHARING_MAX_EQUATIONS);
         return false;
     }
-    if (!read_sides(r, &next->left))
+    if (!read_sides(r, next))
         return false;
     next->text = between(start, r->rest.at);
     next->where = r->where;
-    next->tokens = out->tokens - before;
     if (!end_equation(r))
         return false;
     out->equations++;
@@ -452,9 +436,8 @@ static bool read_items(rules *out) {
     r->lines.at = r->where.text.at = out->from.bytes;
     r->lines.end = out->from.bytes + out->from.len;
     r->where.name = out->from.name;
-    r->atoms = need(malloc(out->from.len + 1));
+    out->atoms = need(malloc(out->from.len + 1));
     good = read_lines(r);
-    free(r->atoms);
     free(r);
     return good;
 }

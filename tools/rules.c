@@ -5,8 +5,10 @@
 
 /* Gives back the memory of a file; NULL is none. */
 void free_rules(rules *given) {
-    if (given != NULL)
+    if (given != NULL) {
         free(given->from.bytes);
+        free(given->atoms);
+    }
     free(given);
 }
 
@@ -66,18 +68,55 @@ size_t write_table(const rules *given, uint8_t out[SHARING_MAX_FORM]) {
     return len;
 }
 
-/* The form of the first equations, `count` in number. */
-size_t write_equations(const rules *given, size_t count, uint8_t out[MOST_EQUATIONS_FORM]) {
-    size_t tokens = 0, len = 0;
+/* On which side an equation has a variable; the left one is looked at first. */
+sides equation_sides(const rules *given, size_t i) {
+    const equation *e = &given->equation[i];
+    if (given->token[e->first] < HEAD)
+        return LEFT_VARIABLE;
+    return given->token[e->first + e->left] < HEAD ? RIGHT_VARIABLE : TWO_TERMS;
+}
+
+/* Tokens as bytes. */
+size_t write_tokens(const rules *given, size_t first, size_t count, uint8_t *out) {
+    size_t len = 0;
     for (size_t i = 0; i < count; i++)
-        tokens += given->equation[i].tokens;
+        put_word(out, &len, given->token[first + i]);
+    return len;
+}
+
+/* The form of the first equations, `count` in number, with their variables apart: each has one on
+ * one side, which stands for the left one. */
+size_t write_equations(const rules *given, size_t count, uint8_t out[MOST_EQUATIONS_FORM]) {
+    size_t len = 0, tokens = 0;
+    for (size_t i = 0; i < count; i++)
+        tokens += given->equation[i].left + given->equation[i].right - 1;
+    put_word(out, &len, count);
+    put_word(out, &len, tokens);
+    for (size_t i = 0; i < count; i++) {
+        const equation *e = &given->equation[i];
+        size_t right = equation_sides(given, i) == RIGHT_VARIABLE ? e->left : 0;
+        put_word(out, &len, given->token[e->first + right]);
+    }
+    for (size_t i = 0; i < count; i++)
+        put_word(out, &len, given->equation[i].left + given->equation[i].right - 1);
+    for (size_t i = 0; i < count; i++) {
+        const equation *e = &given->equation[i];
+        size_t left = equation_sides(given, i) == LEFT_VARIABLE;
+        len += write_tokens(given, e->first + left, e->left + e->right - 1, out + len);
+    }
+    return len;
+}
+
+/* The same with both sides as terms: the counts of left sides, those of right sides, the tokens. */
+size_t write_term_equations(const rules *given, size_t count, uint8_t out[MOST_EQUATIONS_FORM]) {
+    size_t len = 0, tokens = 0;
+    for (size_t i = 0; i < count; i++)
+        tokens += given->equation[i].left + given->equation[i].right;
     put_word(out, &len, count);
     put_word(out, &len, tokens);
     for (size_t i = 0; i < count; i++)
         put_word(out, &len, given->equation[i].left);
     for (size_t i = 0; i < count; i++)
-        put_word(out, &len, given->equation[i].tokens);
-    for (size_t i = 0; i < tokens; i++)
-        put_word(out, &len, given->token[i]);
-    return len;
+        put_word(out, &len, given->equation[i].right);
+    return len + write_tokens(given, 0, tokens, out + len);
 }

@@ -9,10 +9,12 @@
  *     answers.c   what the library answers of it, in words
  *     groups.c    the groups of its tables, as rows of marks
  *     forms.c     the forms of its tables, and a readable file of a form
+ *     walks.c     what its equations come to, in words
  *     explain.c   the refusals of sharerun in words
  *
  * Every answer is the library's. This program reads, writes an entry for each variable that the
- * file calls free and for each _, and lists the groups that the library's entries cover.
+ * file calls free and for each _, lists the groups that the library's entries cover, and tells
+ * which equations and clashes are found in two terms.
  */
 #include "answers.h"
 #include "help.h"
@@ -24,27 +26,34 @@ typedef struct {
     int count;
     char *plain[3];    /* the arguments that are no options */
     const char *after; /* the number of --after, or NULL */
-    bool packed, help;
+    bool packed, unify, help;
 } arguments;
 
 typedef enum { INPUT, EXPLAIN, APART, PAIRS, TABLES, SHOW, FORM, TEXT, COMMANDS } command;
 
+/* The options, as bits. */
+enum { NONE = 0, AFTER = 1, PACKED = 2, UNIFY = 4 };
+
 /* Of each command its name, how many arguments it has that are no options, and its options. */
 static const struct {
     const char *name;
-    int plain;
-    bool has_after, has_packed;
-} commands[COMMANDS] = {[INPUT] = {"input", 1, false, false},
-                        [EXPLAIN] = {"explain", 0, false, false},
-                        [APART] = {"apart", 3, true, false},
-                        [PAIRS] = {"pairs", 1, true, false},
-                        [TABLES] = {"tables", 1, false, false},
-                        [SHOW] = {"show", 1, false, false},
-                        [FORM] = {"form", 1, true, true},
-                        [TEXT] = {"text", 1, false, true}};
+    int least, most, options;
+} commands[COMMANDS] = {[INPUT] = {"input", 1, 1, UNIFY},
+                        [EXPLAIN] = {"explain", 0, 1, NONE},
+                        [APART] = {"apart", 3, 3, AFTER},
+                        [PAIRS] = {"pairs", 1, 1, AFTER},
+                        [TABLES] = {"tables", 1, 1, NONE},
+                        [SHOW] = {"show", 1, 1, NONE},
+                        [FORM] = {"form", 1, 1, AFTER | PACKED},
+                        [TEXT] = {"text", 1, 1, PACKED}};
 
 /* An argument of one dash is standard input or no variable; those of more letters are options. */
 static bool is_option(const char *argument) { return argument[0] == '-' && argument[1] != '\0'; }
+
+/* Is this an option of the command that was not there before? */
+static bool is_new(const char *argument, const char *name, command c, int option, bool before) {
+    return (commands[c].options & option) != 0 && strcmp(argument, name) == 0 && !before;
+}
 
 /* The arguments of a command, with the options that it has. */
 static bool read_arguments(char **argv, command c, arguments *out) {
@@ -52,17 +61,18 @@ static bool read_arguments(char **argv, command c, arguments *out) {
     for (; *argv != NULL; argv++) {
         if (strcmp(*argv, "--help") == 0)
             out->help = true;
-        else if (commands[c].has_after && strcmp(*argv, "--after") == 0 && out->after == NULL &&
-                 argv[1] != NULL)
+        else if (is_new(*argv, "--after", c, AFTER, out->after != NULL) && argv[1] != NULL)
             out->after = *++argv;
-        else if (commands[c].has_packed && strcmp(*argv, "--packed") == 0 && !out->packed)
+        else if (is_new(*argv, "--packed", c, PACKED, out->packed))
             out->packed = true;
-        else if (!is_option(*argv) && out->count < commands[c].plain)
+        else if (is_new(*argv, "--unify", c, UNIFY, out->unify))
+            out->unify = true;
+        else if (!is_option(*argv) && out->count < commands[c].most)
             out->plain[out->count++] = *argv;
         else
             return false;
     }
-    return out->help || out->count == commands[c].plain;
+    return out->help || out->count >= commands[c].least;
 }
 
 /* The point that --after gives: after the last equation where it is not there. */
@@ -81,11 +91,37 @@ static bool read_after(const rules *given, const char *after, size_t *point) {
     return false;
 }
 
-/* Writes the input of sharerun. */
-static int input(const rules *given) {
+/* Says that sharerun does not read the first equation with a variable on neither side. */
+static int not_for_sharerun(const rules *given) {
+    size_t i = 0;
+    while (equation_sides(given, i) != TWO_TERMS)
+        i++;
+    tell(&given->equation[i].where, given->equation[i].text,
+         "sharerun does not read equation %zu: neither side of it is a variable.", i + 1);
+    expected("a variable on one side. All other commands take the file as it is: `sharetext "
+             "tables` has the tables, and `sharetext input --unify` writes what sharing_unify_run "
+             "reads");
+    return STATUS_WRONG;
+}
+
+/* Says that the form of two terms does not hold the equations. */
+static int too_long_to_unify(const rules *given) {
+    fprintf(stderr, "%s: There are more than %d variables and symbols on both sides together.\n",
+            given->from.name, SHARING_MAX_TOKENS);
+    expected("at most %d where left sides count too, as they do with --unify", SHARING_MAX_TOKENS);
+    return STATUS_WRONG;
+}
+
+/* Writes the table and then the equations: the input of sharerun, or both sides as terms. */
+static int input(const rules *given, bool unify) {
     uint8_t table[SHARING_MAX_FORM], equations[MOST_EQUATIONS_FORM];
+    if (unify && given->tokens > SHARING_MAX_TOKENS)
+        return too_long_to_unify(given);
     fwrite(table, 1, write_table(given, table), stdout);
-    fwrite(equations, 1, write_equations(given, given->equations, equations), stdout);
+    fwrite(equations, 1,
+           unify ? write_term_equations(given, given->equations, equations)
+                 : write_equations(given, given->equations, equations),
+           stdout);
     return finish(STATUS_YES);
 }
 
@@ -94,8 +130,13 @@ static int run_on(command c, const rules *given, const arguments *got) {
     size_t after = 0;
     if (!read_after(given, got->after, &after))
         return STATUS_WRONG;
+    if (c == EXPLAIN)
+        return explain_file(given);
+    if (c == INPUT && given->compound && !got->unify)
+        return not_for_sharerun(given);
+    tell_clashes(given, after);
     if (c == INPUT)
-        return input(given);
+        return input(given, got->unify);
     if (c == APART)
         return apart(given, got->plain + 1, after);
     if (c == PAIRS)
@@ -113,7 +154,7 @@ static int run(command c, const arguments *got) {
         print_help();
         return finish(STATUS_YES);
     }
-    if (c == EXPLAIN)
+    if (c == EXPLAIN && got->count == 0)
         return explain();
     if (c == TEXT)
         return write_text(got->plain[0], got->packed);

@@ -3,18 +3,24 @@
 
 #include <string.h>
 
-enum { HEAD = 0x8000, ARITY_BITS = 4 };
-
 /* ---- Tokens */
+
+/* How many tokens there may be by now. A variable alone on a side does not count, one for each
+ * equation, until some equation has a variable on neither side. */
+static size_t most_tokens(const reader *r) {
+    const rules *out = r->out;
+    return SHARING_MAX_TOKENS + (out->compound ? 0 : out->equations + r->variable);
+}
 
 /* One more token; `where` is what it stands for in the text. */
 static bool add_token(reader *r, piece where, uint32_t token) {
     rules *out = r->out;
-    if (out->tokens == SHARING_MAX_TOKENS) {
+    if (out->tokens >= most_tokens(r)) {
         tell(&r->where, where, "There are more than %d variables and symbols in the terms.",
              SHARING_MAX_TOKENS);
-        expected("at most %d in all equations together; a list counts one more for each of its "
-                 "elements and one for its end", SHARING_MAX_TOKENS);
+        expected("at most %d in all equations together%s; a list counts one more for each of its "
+                 "elements and one for its end", SHARING_MAX_TOKENS,
+                 out->compound ? ", both sides of each, since one has a variable on neither" : "");
         return false;
     }
     out->token[out->tokens++] = token;
@@ -22,19 +28,19 @@ static bool add_token(reader *r, piece where, uint32_t token) {
 }
 
 /* The number of a symbol: its old one, or the next one if it is new. */
-static uint32_t symbol_number(reader *r, symbol wanted) {
+static uint32_t symbol_number(rules *out, symbol wanted) {
     size_t i = 0;
-    while (i < r->symbols && (r->symbol[i].number != wanted.number ||
-                              !same_piece(r->symbol[i].text, wanted.text)))
+    while (i < out->symbols && (out->symbol[i].number != wanted.number ||
+                                !same_piece(out->symbol[i].text, wanted.text)))
         i++;
-    if (i == r->symbols)
-        r->symbol[r->symbols++] = wanted;
+    if (i == out->symbols)
+        out->symbol[out->symbols++] = wanted;
     return (uint32_t)(i + 1);
 }
 
 /* A head. Where there is no room for it the symbol is not numbered, so that all numbers fit. */
 static bool add_head(reader *r, piece where, symbol head, uint32_t arity) {
-    uint32_t number = r->out->tokens < SHARING_MAX_TOKENS ? symbol_number(r, head) : 0;
+    uint32_t number = r->out->tokens < most_tokens(r) ? symbol_number(r->out, head) : 0;
     return add_token(r, where, HEAD | number << ARITY_BITS | arity);
 }
 
@@ -60,7 +66,7 @@ static bool add_unnamed(reader *r, piece where, uint32_t *number) {
 }
 
 /* The variable that stands here: one of the line vars, or _. */
-bool read_variable(reader *r, uint32_t *number) {
+static bool read_variable(reader *r, uint32_t *number) {
     piece name = take_name(&r->rest);
     if (same_piece(name, from_text("_")))
         return add_unnamed(r, name, number);
@@ -99,8 +105,8 @@ static bool read_quoted_character(reader *r, piece *text) {
         expected("a character of ASCII or UTF-8, and no tab");
         return false;
     }
-    memcpy(r->atoms + r->atoms_len, next.at, next.len);
-    r->atoms_len += next.len;
+    memcpy(r->out->atoms + r->out->atoms_len, next.at, next.len);
+    r->out->atoms_len += next.len;
     text->len += next.len;
     r->rest.at += next.len;
     return true;
@@ -109,7 +115,7 @@ static bool read_quoted_character(reader *r, piece *text) {
 /* A quoted atom; its text without the quotes is kept apart. A comment sign in it is none. */
 static bool read_quoted(reader *r, symbol *out) {
     const uint8_t *start = r->rest.at++;
-    out->text.at = r->atoms + r->atoms_len;
+    out->text.at = r->out->atoms + r->out->atoms_len;
     out->text.len = 0;
     while (peek(&r->rest) != '\'' || peek_second(&r->rest) == '\'') {
         if (peek(&r->rest) == END)

@@ -172,7 +172,7 @@ static void put_below(piece p, int sign, int below_tab) {
 }
 
 /* The beginning of a message: the file, line and column, or the goal and column. */
-static void tell_place(const place *where, piece wrong) {
+void tell_place(const place *where, piece wrong) {
     unsigned long column = (unsigned long)(wrong.at - where->text.at) + 1;
     if (where->line > 0)
         fprintf(stderr, "%s:%lu:%lu: ", where->name, where->line, column);
@@ -181,7 +181,7 @@ static void tell_place(const place *where, piece wrong) {
 }
 
 /* The text of the line, and below it the signs that point at the wrong piece. */
-static void show_line(const place *where, piece wrong) {
+void show_line(const place *where, piece wrong) {
     piece before = {where->text.at, (size_t)(wrong.at - where->text.at)};
     fputs("\n    ", stderr);
     put_piece(stderr, where->text);

@@ -51,6 +51,8 @@ piece between(const uint8_t *start, const uint8_t *end);
 bool same_piece(piece one, piece other);
 void put_piece(FILE *to, piece p);
 
+void tell_place(const place *where, piece wrong);
+void show_line(const place *where, piece wrong);
 void tell(const place *where, piece wrong, const char *what, ...);
 void tell_piece(const place *where, piece wrong, const char *what, ...);
 void tell_cannot(const place *where, piece wrong);
