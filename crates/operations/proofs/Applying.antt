@@ -3,8 +3,6 @@ use mathlib.Core.Path.{_≡_, refl, sym, ap, _∙_}
 use mathlib.Core.List.{List, []}
 use mathlib.Core.Option.{Option, some}
 use Prim.Native.Nat.{ℕ}
-use lib.ListN.{length}
-use Rattle.model.specs.Groups.{Bits}
 use Rattle.model.specs.Growth.{_>>=_, fold, Entries}
 use Rattle.model.specs.Tables.{Side}
 use Rattle.model.specs.Terms.{var, variables}
@@ -12,11 +10,9 @@ use Rattle.model.specs.Equations.{Equation, equation}
 use Rattle.model.specs.Tables.{equation-of-sets}
 use Rattle.model.specs.Unification.{next-equation, walk-entries}
 use Rattle.model.proofs.Variables.{variables-length}
-use Rattle.words.specs.Words.{set-word}
 use Rattle.tables.specs.declared.Table.{Table}
 use Rattle.tables.specs.declared.Refusal.the-variants as R
-use Rattle.tables.specs.declared.Answered.{Answered}
-use Rattle.tables.specs.Values.{entries-of, refuses, made-or-full}
+use Rattle.tables.specs.Values.{refuses, made-or-full}
 use Rattle.lists.specs.declared.Grown.{Grown}
 use Rattle.lists.specs.declared.Grown.the-variants.{Count, Full}
 use Rattle.lists.specs.WorkingLists.{Holds, Makes, makes}

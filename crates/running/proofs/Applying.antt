@@ -1,9 +1,9 @@
 -- A run equation by equation: where it goes on from a place, it gives the whole. Assumes nothing.
-use mathlib.Core.Path.{_≡_, sym, ap, ap₂, _∙_}
+use mathlib.Core.Path.{_≡_, sym, ap, _∙_}
 use mathlib.Core.List.{List}
 use Prim.Native.Nat.{ℕ, _+_, _-_, _*_, _/_, _%_, _≤_}
 use native.Mathlib.Omega.{arith}
-use borrow.Author.Tests.{le-leb, eq-eqb}
+use borrow.Author.Tests.{le-leb}
 use lib.ListN.{length, take, drop, length-drop}
 use lib.Seq.{length-take-le, take-all}
 use Rattle.model.specs.Tables.{Side}
@@ -25,7 +25,6 @@ use Rattle.forms.proofs.Rows.{numbers-drop, numbers-take}
 use Rattle.equation_forms.proofs.Cursors.{on-start, rest-start, rest-none, on-next, rest-next, tokens-long, tokens-few}
 use Rattle.byte_calls.specs.ByteCalls.{check-bytes, check-both-bytes, tokens-of, written-tokens, value-call}
 use Rattle.byte_calls.proofs.AfterChecks.{check-all-bytes, bytes-passed}
-use Rattle.running.specs.declared.Running.{Running}
 use Rattle.running.specs.States.{state, run-from}
 
 -- ---- An equation as the bytes of a form

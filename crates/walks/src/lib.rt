@@ -2,7 +2,7 @@
 // heads move both on by one, and a variable passes over the whole term across. Nothing of the walk is stored. Inner: not a
 // public call.
 ghost use mathlib.Core.Path.{_≡_};
-ghost use Prim.Native.Nat.{ℕ, _≤_};
+ghost use Prim.Native.Nat.{ℕ};
 ghost use Rattle.model.specs.Walk.{Walked};
 ghost use Rattle.walks.specs.Cursors.{Across, Rest, Next, clash};
 

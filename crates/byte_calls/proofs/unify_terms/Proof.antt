@@ -1,7 +1,6 @@
 -- The check of the table, then that of the bytes.
-use mathlib.Core.Path.{_≡_, sym, _∙_}
+use mathlib.Core.Path.{sym, _∙_}
 use borrow.Author.Needs.{needs}
-use Rattle.operations.specs.Operations.{side-of}
 use Rattle.byte_calls.proofs.AfterChecks.{terms-table-refused, terms-bytes-refused, terms-passed}
 use Rattle.byte_calls.proofs.unify_terms.Statement.{statement}
 use Rattle.byte_calls.proofs.unify_terms.Tie as tie

@@ -1,7 +1,6 @@
 -- There are two bytes a token and at most 1024 tokens (`array-room`), and the array they are read into begins with them:
 -- those of the term, or of the left side and then of the right.
 use mathlib.Core.Path.{_≡_, sym, ap, _∙_}
-use Prim.Native.Nat.{_/_, _≤_}
 use native.Mathlib.Omega.{arith}
 use borrow.Author.Needs.{needs}
 use lib.ListN.{length}

@@ -1,6 +1,5 @@
 -- Each form has one count or a sum of two; the tokens of an equation are among those of the form (`tokens-within`), so that
 -- the sum fits.
-use native.Mathlib.Omega.{arith}
 use borrow.Author.Needs.{needs}
 use Rattle.equation_forms.proofs.Cursors.{tokens-within}
 use Rattle.equation_forms.proofs.span.Statement.{statement}
