@@ -20,6 +20,7 @@ pub fn check(tester: &mut Tester, full: &Full) -> Checked<()> {
             most_tokens(tester, negative, &mut random)?;
             rounded_halves(tester, negative, &mut random)?;
         }
+        most_tokens_split(tester, negative, &mut random)?;
         for _ in 0..40 {
             each_split(tester, negative, &mut random)?;
             each_clash(tester, negative, &mut random)?;
@@ -56,7 +57,19 @@ fn answered(tester: &mut Tester, case: &Case, number: u32, random: &mut Random) 
     Ok(())
 }
 
-/// 1024 tokens in many splits, and one more; of other splits a side has none.
+/// 1024 tokens in every split that leaves both sides some.
+fn most_tokens_split(tester: &mut Tester, negative: bool, random: &mut Random) -> Checked<()> {
+    let mut case = unify(negative, random);
+    let l = case.l();
+    for left in 1..TOKENS {
+        give_terms(&mut case, &random.two_terms_of(l, left, TOKENS - left));
+        answered(tester, &case, 0, random)?;
+    }
+    Ok(())
+}
+
+/// 1024 tokens in some splits, with terms that do not clash too, and one more; of other splits a side
+/// has none.
 fn most_tokens(tester: &mut Tester, negative: bool, random: &mut Random) -> Checked<()> {
     let any = random.within(1, TOKENS - 1);
     for left in [1, 2, 3, any, 511, 512, 513, 1021, 1022, 1023] {
