@@ -196,6 +196,21 @@ module _ {l : ℕ} {left right : List ℕ} {i j : ℕ} {o : Walked} (r : Rest l 
     pub bit-right : getD right j 0 < first-head → (0 < getD right j 0) × (getD right j 0 - 1 < 32)
     bit-right v = left-bit (left-start (term-right .3)) (omega arith) v
 
+    -- what is left past the two terms at the cursors
+    past : (f : Fronts l left right i j o) {a b : ℕ} → drop a left ≡ tokens-row (f .ss) → drop b right ≡ tokens-row (f .ts)
+        → Rest l left right a b (walk-row (f .ss) (f .ts))
+    past f p q = record {
+      few = r .few;
+      ss = f .ss;
+      ts = f .ts;
+      left-is = p;
+      right-is = q;
+      left-writable = f .left-writable .1;
+      right-writable = f .right-writable .1;
+      same = f .same;
+      walks = refl;
+    }
+
     -- a variable on the left, and what passes over the term across
     pub next-left : (e y : ℕ) → getD left i 0 < first-head → Passes right j e y
         → Next l left right i j o (F.Equation ((1 * 2 ^ (getD left i 0 - 1)) % 2 ^ 32) y (i + 1) e)
@@ -213,17 +228,7 @@ module _ {l : ℕ} {left right : List ℕ} {i j : ℕ} {o : Walked} (r : Rest l 
             (at-equation {a = i + 1} {b = e} (record { left = x; right = f .t }) (walk-row (f .ss) (f .ts))
             (record { left = bit-word l x (r .few) (w .1); right = st .set })
             (record { further = omega (arith, st .further); inside = (omega (arith, at .inside), st .inside) })
-            (record {
-              few = r .few;
-              ss = f .ss;
-              ts = f .ts;
-              left-is = at .rest;
-              right-is = st .rest;
-              left-writable = f .left-writable .1;
-              right-writable = f .right-writable .1;
-              same = f .same;
-              walks = refl;
-            }) (sym k))
+            (past f (at .rest) (st .rest)) (sym k))
 
     module _ (u : first-head ≤ getD left i 0) where
       -- a head on the left and a variable on the right
@@ -249,17 +254,7 @@ module _ {l : ℕ} {left right : List ℕ} {i j : ℕ} {o : Walked} (r : Rest l 
               (at-equation {a = e} {b = j + 1} (record { left = x; right = head g us }) (walk-row (f .ss) (f .ts))
               (record { left = bit-word l x (r .few) (w .1); right = st .set })
               (record { further = omega (arith, st .further); inside = (st .inside, omega (arith, at .inside)) })
-              (record {
-                few = r .few;
-                ss = f .ss;
-                ts = f .ts;
-                left-is = st .rest;
-                right-is = at .rest;
-                left-writable = f .left-writable .1;
-                right-writable = f .right-writable .1;
-                same = f .same;
-                walks = refl;
-              }) (sym k))
+              (past f (st .rest) (at .rest)) (sym k))
 
       -- two heads: equal ones go down, and others clash
       module _ (v : first-head ≤ getD right j 0) where

@@ -26,9 +26,12 @@ abbrev μ-loop : tie.MeasureT-loop
 μ-loop side left right t l n₀ given₀ at-left₀ at-right₀ n given at-left at-right =
     length left + length right - (at-left + at-right)
 
--- the start, from where the table is loaded
+-- where the table's arrays are lent, and the start
+abbrev lent : tie.After-given Inv-loop μ-loop → tie.After-t Inv-loop μ-loop
+lent c = c .before .before .before
+
 abbrev start : tie.After-given Inv-loop μ-loop → tie.Start Inv-loop μ-loop
-start c = c .before .before .before .before .before .before
+start c = lent c .before .before .before
 
 load-requires : tie.Need-load-requires Inv-loop μ-loop
 load-requires c κs = good-few (start c .pre .0)
@@ -48,7 +51,8 @@ enum-known-x c = search needs
 
 equation-list-requires : tie.Need-equation-list-requires Inv-loop μ-loop
 equation-list-requires c κs =
-    let at-loop = c .before .before .before .before .before .before in
+    let at-x = c .before .before .before in
+    let at-loop = at-x .before .before .before in
     (at-loop .loop .inv .0, good-wide (start (at-loop .before .before) .pre .0))
 
 enum-told : tie.Need-enum-told Inv-loop μ-loop
@@ -73,7 +77,8 @@ enum-known-k c = search needs
 
 loop-less : tie.Need-loop-less Inv-loop μ-loop
 loop-less c =
-    let at-x = c .before .before .before .before .before .before .before in
+    let at-call = c .before .before .before in
+    let at-x = at-call .before .before .before .before in
     let at-next = at-x .before .before in
     let k = at-next .before .loop .inv .1 .0 .1 in
     let w = equation-told (at-next .next .ensures _ (some (k .others)) (k .rest)) (at-x .x .given .1) in
