@@ -126,20 +126,26 @@ static void parish(void) {
     print_state("read again", state.code, &state);
 }
 
-/* Sixteen free variables. X1 = f(X1, ..., X15) needs entry 257, and is run all the same. */
+/*
+ * Sixteen variables, each of which may share with the next one. X1 = f(X1, ..., X15) needs entry
+ * 257, and is run all the same.
+ */
 static void full(void) {
+    uint32_t groups[15];
+    for (int i = 0; i < 15; i++)
+        groups[i] = 3u << i;
     uint8_t form[SHARING_MAX_FORM];
-    expect(0, sharing_all_free(16, form, sizeof form), "sharing_all_free");
+    expect(0, sharing_convert(16, groups, 15, form, sizeof form), "sharing_convert");
     sharing_running state =
         sharing_start(SHARING_POSITIVE, form, sharing_front_length(form, sizeof form));
     expect(0, state.code, "sharing_start");
     print_state("start", state.code, &state);
     equation(&state, "X16 = a", 16, 0, RUNS_IT);
-    ask("X2 beside X3?", &state, 1u << 1, 1u << 2);
+    ask("X2 beside X4?", &state, 1u << 1, 1u << 3);
     equation(&state, "X1 = f(X1, ..., X15)", 1, sharing_variables(15), RUNS_IT);
-    ask("X2 beside X3?", &state, 1u << 1, 1u << 2);
+    ask("X2 beside X4?", &state, 1u << 1, 1u << 3);
     equation(&state, "X2 = a", 2, 0, RUNS_IT);
-    ask("X2 beside X3?", &state, 1u << 1, 1u << 2);
+    ask("X2 beside X4?", &state, 1u << 1, 1u << 3);
 }
 
 int main(void) {

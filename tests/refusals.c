@@ -366,7 +366,7 @@ static void refuse_values(void) {
     refuse_value(SHARING_WIDTH, &state);
 }
 
-/* 257 words of four ones each: no two differ in one bit, so that no entry covers two of them. */
+/* 257 words of four ones each: no two differ in one bit, so that none widens. */
 static void four_ones(uint32_t words[SHARING_MAX_ENTRIES + 1]) {
     size_t n = 0;
     for (uint32_t word = 0; n <= SHARING_MAX_ENTRIES; word++) {
@@ -406,21 +406,21 @@ static void refuse_full_pair(const uint8_t *table, size_t table_len, const uint8
     EXPECT(SHARING_FULL, sharing_unify(0, table, table_len, BYTES(left), BYTES(right), out, 0));
     sharing_running state = sharing_start(0, table, table_len);
     EXPECT(SHARING_FULL, sharing_unify_step(&state, BYTES(left), BYTES(right)));
-    HOLDS(state.code == SHARING_ACCEPTED && state.applied == 0 && state.table.n == 16);
+    HOLDS(state.code == SHARING_ACCEPTED && state.applied == 0 && state.table.n == 15);
     state = sharing_unify_run(0, table, table_len, BYTES(run));
-    HOLDS(state.code == SHARING_FULL && state.applied == 1 && state.table.n == 15);
+    HOLDS(state.code == SHARING_FULL && state.applied == 1 && state.table.n == 14);
     left[6] ^= 0x10;
     EXPECT(SHARING_ACCEPTED, sharing_unify_step(&state, BYTES(left), BYTES(right)));
     HOLDS(state.code == SHARING_ACCEPTED && state.applied == 2 && state.table.n == 0);
 }
 
-/* Full, of an equation: X1 with any of X2 to X15 is more than 256 groups. */
+/* Full, of an equation: each variable may share with the next one, and X1 = f(X1, ..., X15). */
 static void refuse_full_equation(void) {
-    static uint8_t alone[4 + 4 * 16], term[2 * 16], run[4 + 4 * 2 + 2 * 17];
-    uint32_t words[16];
-    for (int i = 0; i < 16; i++)
-        words[i] = 1u << i;
-    EXPECT(SHARING_ACCEPTED, sharing_convert(16, words, 16, BYTES(alone)));
+    static uint8_t next[4 + 4 * 15], term[2 * 16], run[4 + 4 * 2 + 2 * 17];
+    uint32_t words[15];
+    for (int i = 0; i < 15; i++)
+        words[i] = 3u << i;
+    EXPECT(SHARING_ACCEPTED, sharing_convert(16, words, 15, BYTES(next)));
     const uint8_t sizes[] = {WORD(2), WORD(17), WORD(1), WORD(1), WORD(1), WORD(16), WORD(1)};
     term[0] = 0x1f;
     term[1] = 0x80;
@@ -428,14 +428,14 @@ static void refuse_full_equation(void) {
         term[2 * i] = (uint8_t)i;
     memcpy(run, sizes, sizeof sizes);
     memcpy(run + sizeof sizes, term, sizeof term);
-    EXPECT(SHARING_FULL, sharing_equation(0, BYTES(alone), 1, BYTES(term), out, 0));
-    sharing_running state = sharing_start(0, BYTES(alone));
+    EXPECT(SHARING_FULL, sharing_equation(0, BYTES(next), 1, BYTES(term), out, 0));
+    sharing_running state = sharing_start(0, BYTES(next));
     EXPECT(SHARING_ACCEPTED, sharing_step(&state, 1, variable_2, 2));
     EXPECT(SHARING_FULL, sharing_step(&state, 1, BYTES(term)));
-    HOLDS(state.code == SHARING_ACCEPTED && state.applied == 1 && state.table.n == 15);
-    state = sharing_run(0, BYTES(alone), BYTES(run));
-    HOLDS(state.code == SHARING_FULL && state.applied == 1 && state.table.n == 16);
-    refuse_full_pair(BYTES(alone), term);
+    HOLDS(state.code == SHARING_ACCEPTED && state.applied == 1 && state.table.n == 14);
+    state = sharing_run(0, BYTES(next), BYTES(run));
+    HOLDS(state.code == SHARING_FULL && state.applied == 1 && state.table.n == 15);
+    refuse_full_pair(BYTES(next), term);
 }
 
 /* The two-buffer call: where the part stands, and when it is empty. */

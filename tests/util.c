@@ -613,6 +613,15 @@ static void intersections(void) {
     REFUSED(SHARING_NARROW, sharing_intersect(one, 4, one, 4, out, 3));
 }
 
+/* Sixteen variables, each of which may share with the next one: a goal on all of them is full. */
+static form next_ones(void) {
+    uint32_t words[15];
+    for (int i = 0; i < 15; i++)
+        words[i] = 3u << i;
+    HOLDS(sharing_convert(16, words, 15, out, sizeof out) == 0);
+    return taken();
+}
+
 /* A goal of which nothing is known, against the closure of the groups that meet it. */
 static void unknown_goals(void) {
     const uint8_t loose[] = {2, 0, 1, 0, 1, 0, 2, 0}, two[] = {2, 0, 0, 0};
@@ -626,9 +635,8 @@ static void unknown_goals(void) {
         REFUSED(SHARING_NARROW,
                 sharing_unknown_goal(table.bytes, table.len, goal, out, made.len - 1));
     }
-    HOLDS(sharing_all_free(16, out, sizeof out) == 0);
-    form alone = taken();
-    REFUSED(SHARING_FULL, sharing_unknown_goal(alone.bytes, alone.len, 0xffff, out, 0));
+    form next = next_ones();
+    REFUSED(SHARING_FULL, sharing_unknown_goal(next.bytes, next.len, 0xffff, out, 0));
     REFUSED(SHARING_STRAY, sharing_unknown_goal(loose, sizeof loose, 99, out, 0));
     REFUSED(SHARING_NAME, sharing_unknown_goal(two, 4, 4, out, 0));
     REFUSED(SHARING_NARROW, sharing_unknown_goal(two, 4, 0, out, 3));
@@ -671,14 +679,13 @@ static void refused_goals(void) {
     uint32_t all[16];
     for (uint32_t i = 0; i < 16; i++)
         all[i] = i + 1;
-    HOLDS(sharing_all_free(16, out, sizeof out) == 0);
-    form alone = taken();
+    form next = next_ones();
     REFUSED(SHARING_STRAY, sharing_known_goal(loose, 8, loose, 7, far, 9, out, 0));
     REFUSED(SHARING_TORN, sharing_known_goal(two, 4, loose, 7, far, 9, out, 0));
     REFUSED(SHARING_UNLIKE, sharing_known_goal(two, 4, two, 4, far, 1, out, 0));
     REFUSED(SHARING_NAME, sharing_known_goal(two, 4, two, 4, far, 2, out, 0));
     REFUSED(SHARING_FULL,
-            sharing_known_goal(alone.bytes, alone.len, alone.bytes, alone.len, all, 16, out, 0));
+            sharing_known_goal(next.bytes, next.len, next.bytes, next.len, all, 16, out, 0));
     REFUSED(SHARING_NARROW, sharing_known_goal(two, 4, two, 4, some, 2, out, 3));
 }
 

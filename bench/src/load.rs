@@ -103,7 +103,7 @@ pub fn rows() -> Result<Vec<Row>, Refusal> {
     }
     rows.push(change_of_side(
         "40 strings",
-        &tables::wide_strings(&mut later, L, 40, 3..=4)?,
+        &tables::wide_strings(&mut later, L, 40, 3..=4),
     )?);
     rows.push(change_of_side(
         "most groups",
@@ -152,7 +152,7 @@ fn equations(random: &mut Random) -> Result<Vec<Row>, Refusal> {
     let positive =
         |name: &str, goal, tables: &[Table]| equation(name.into(), goal, Side::Positive, tables);
     let drawn = tables::drawn(L, EQUATIONS, 32)?;
-    let mut rows = vec![positive("positive equation, 32 draws", 0.10, &drawn)?];
+    let mut rows = vec![positive("positive equation, 32 draws", 0.12, &drawn)?];
     rows.extend(negative_equations(random)?);
     let one_entry = tables::one_entry(random);
     rows.push(positive("equation on one entry", 0.60, &one_entry)?);
@@ -169,7 +169,7 @@ fn negative_equations(random: &mut Random) -> Result<Vec<Row>, Refusal> {
     };
     let mut rows = Vec::new();
     for (percent, fixed) in tables::SHARES {
-        let tables = tables::leaving(L, percent, fixed, EQUATIONS)?;
+        let tables = tables::leaving(L, percent, fixed, EQUATIONS);
         rows.push(negative(&format!("{percent} % left"), 0.35, &tables)?);
     }
     for draws in [2, 4] {
@@ -184,10 +184,10 @@ fn negative_equations(random: &mut Random) -> Result<Vec<Row>, Refusal> {
 /// The change of side and the negative equation at 16 variables. Strings are chosen so that few
 /// calls are full: with three or four positions fixed the change of side of 8 strings is for 21 of 64.
 fn wider(random: &mut Random) -> Result<Vec<Row>, Refusal> {
-    let strings = tables::wide_strings(random, VARIABLES, 24, 2..=3)?;
+    let strings = tables::wide_strings(random, VARIABLES, 24, 2..=3);
     let mut rows = vec![change_of_side("24 strings of 16", &strings)?];
     for (percent, fixed) in tables::SHARES {
-        let tables = tables::leaving(VARIABLES, percent, fixed, INPUTS)?;
+        let tables = tables::leaving(VARIABLES, percent, fixed, INPUTS);
         let name = format!("negative equation of 16, {percent} %");
         rows.push(equation(name, 0.35, Side::Negative, &tables)?);
     }
@@ -204,9 +204,9 @@ fn equation(name: String, goal: f64, side: Side, tables: &[Table]) -> Result<Row
     Row::new(name, goal, tables.iter().map(input))
 }
 
-/// Chains of random positive equations of 16 variables. Of 16 draws hardly an equation is full, of
-/// 32 most are; of 22 one table has all 256 entries. From the all-star entry, where nothing is known
-/// of the variables, tables stay short.
+/// Chains of random positive equations of 16 variables. Of 22 draws no equation is full, of 32 draws
+/// 9 of 640 are, of 64 nearly all. From the all-star entry, where nothing is known of the variables,
+/// tables stay short.
 fn chains(random: &mut Random, later: &mut Random) -> Result<Vec<Row>, Refusal> {
     let drawn = tables::drawn(VARIABLES, CHAINS, 22)?;
     let more = tables::more_groups(later)?;
@@ -214,7 +214,7 @@ fn chains(random: &mut Random, later: &mut Random) -> Result<Vec<Row>, Refusal> 
     Ok(vec![
         chain(random, "22 draws", 0.15, &drawn)?,
         chain(later, "16 groups", 0.30, &tables::single_groups()?)?,
-        chain(later, "24 groups", 0.15, &more)?,
+        chain(later, "24 groups", 0.20, &more)?,
         chain(later, "all-star entry", 0.60, &unknown)?,
     ])
 }
@@ -229,8 +229,8 @@ fn chain(random: &mut Random, name: &str, goal: f64, tables: &[Table]) -> Result
     Row::new(name, goal, tables.iter().map(input))
 }
 
-/// The questions of one sort. Both sides read the forms first, which grows their strings and drops
-/// some of the 256: at 12 variables 15 to 47 % (medians of the rows), at 16 variables 2 to 21 %.
+/// The questions of one sort. Both sides read the forms first, which widens their strings and leaves
+/// fewer than 256: at 12 variables 16 to 54 % fewer (medians of the rows), at 16 variables 2 to 44 %.
 fn asking(sort: &Sort) -> Result<Row, Refusal> {
     let inputs = sort.questions.iter().map(Input::question);
     let row = Row::new(sort.name.clone(), sort.bound, inputs)?;
@@ -243,13 +243,13 @@ type MakeInput = fn(&Table) -> Result<Input, Refusal>;
 /// The calls on packed forms.
 const PACKING: [(&str, MakeInput); 2] = [("packing", Input::pack), ("unpacking", Input::unpack)];
 
-/// Both calls on tables of which reading drops no entry.
+/// Both calls on tables that reading leaves as they are.
 fn packing(random: &mut Random) -> Result<Vec<Row>, Refusal> {
     let mut rows = Vec::new();
     for l in [L, VARIABLES] {
         for count in [1, 32, ENTRIES] {
             let fixed = l as usize / 2..=l as usize;
-            let tables = tables::wide_strings(random, l, count, fixed)?;
+            let tables = tables::grown_strings(random, l, count, &fixed)?;
             for (call, input) in PACKING {
                 let name = format!("{call} {count} of {l}");
                 let row = Row::new(name, 1.00, tables.iter().map(input))?;

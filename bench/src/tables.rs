@@ -36,16 +36,16 @@ pub fn changed(tables: &[Table]) -> Tables {
     tables.iter().map(operations::change_side).collect()
 }
 
-/// Positive tables of so many entries, each with so many positions fixed. Of 40 strings of 12
-/// variables with three or four positions fixed 67 to 75 % are `*`, and the change of side leaves some 27 entries
-/// (median) and is full for 6 of 64; with up to five positions fixed it would be full for half of
-/// them.
+/// Positive tables of so many strings, each with so many positions fixed. Of 40 strings of 12
+/// variables with three or four positions fixed 67 to 75 % are `*`, and the change of side leaves
+/// some 27 entries (median) and is full for 6 of 64; with up to five positions fixed it would be
+/// full for half of them.
 pub fn wide_strings(
     random: &mut Random,
     l: u32,
     strings: usize,
     fixed: RangeInclusive<usize>,
-) -> Tables {
+) -> Vec<Table> {
     let mut table = || {
         filled(random, l, fixed.clone(), |table| {
             table.entries.len() == strings
@@ -56,26 +56,48 @@ pub fn wide_strings(
 
 /// Negative tables of random strings, drawn until they leave at most so many percent of the groups;
 /// 3 or 4 percent fewer are left (medians). One table of each seed from 1 on.
-pub fn leaving(l: u32, percent: u32, fixed: RangeInclusive<usize>, seeds: usize) -> Tables {
+pub fn leaving(l: u32, percent: u32, fixed: RangeInclusive<usize>, seeds: usize) -> Vec<Table> {
     let share = percent as usize * low_bits(l) as usize;
     let few = |table: &Table| 100 * groups(table, Side::Negative).iter().count() <= share;
     let table = |seed| filled(&mut Random::from_state(seed), l, fixed.clone(), few);
     (1..).take(seeds).map(table).collect()
 }
 
-/// The table that random strings make, some of their positions fixed, once there are enough.
+/// The table of random strings, some of their positions fixed, once there are enough. None subsumes
+/// another; they stand as they were drawn, and reading widens them.
 fn filled(
     random: &mut Random,
     l: u32,
     fixed: RangeInclusive<usize>,
     enough: impl Fn(&Table) -> bool,
-) -> Result<Table, Refusal> {
+) -> Table {
     let mut table = Table::empty(l);
     while !enough(&table) {
         let string = fixed_string(random, l, fixed.clone());
-        growth::grow(l, &mut table.entries, string)?;
+        if !table.entries.iter().any(|entry| entry.subsumes(string)) {
+            table.entries.retain(|&entry| !string.subsumes(entry));
+            table.entries.push(string);
+        }
     }
-    Ok(table)
+    table
+}
+
+/// Tables of so many entries, grown from such strings, so that reading leaves them as they are.
+pub fn grown_strings(
+    random: &mut Random,
+    l: u32,
+    count: usize,
+    fixed: &RangeInclusive<usize>,
+) -> Tables {
+    let mut table = || {
+        let mut table = Table::empty(l);
+        while table.entries.len() < count {
+            let string = fixed_string(random, l, fixed.clone());
+            growth::grow(l, &mut table.entries, string)?;
+        }
+        Ok(table)
+    };
+    (0..INPUTS).map(|_| table()).collect()
 }
 
 /// The positive tables of 80 % of the groups of 8 variables, in a random order: some 90 entries.

@@ -1,21 +1,26 @@
-//! The growth rule (01, "The growth rule and what stands on it"). Working lists are vectors of
-//! at most 256 entries, for any l up to 32.
+//! The growth rule (01, "The growth rule and what stands on it"; 02, "Widen wherever a list
+//! grows"). Working lists are vectors of at most 256 entries, for any l up to 32.
 
 use crate::entry::{low_bits, rising_bits, Entry};
 use crate::refusal::Refusal;
 use crate::table::ENTRIES;
 
-/// Grow: an all-zero or subsumed string changes nothing; else the entries that it subsumes go
-/// and it is appended. Where this needs entry 257 the list stays and the call is refused 8.
+/// Grow: an all-zero string changes nothing; any other is widened first. Where an entry subsumes
+/// what it became, nothing changes; else the entries that this subsumes go and it is appended.
+/// Where this needs entry 257 the list stays and the call is refused 8.
 pub fn grow(l: u32, list: &mut Vec<Entry>, y: Entry) -> Result<(), Refusal> {
-    if y.is_zero(l) || list.iter().any(|entry| entry.subsumes(y)) {
+    if y.is_zero(l) {
         return Ok(());
     }
-    list.retain(|&entry| !y.subsumes(entry));
+    let widened = widen(list, y);
+    if list.iter().any(|entry| entry.subsumes(widened)) {
+        return Ok(());
+    }
+    list.retain(|&entry| !widened.subsumes(entry));
     if list.len() >= ENTRIES {
         return Err(Refusal::Full);
     }
-    list.push(y);
+    list.push(widened);
     Ok(())
 }
 
@@ -55,21 +60,11 @@ pub fn widen(list: &[Entry], y: Entry) -> Entry {
     widened
 }
 
-/// Widen a string against a list, then grow the list by it.
-pub fn widen_and_grow(l: u32, list: &mut Vec<Entry>, y: Entry) -> Result<(), Refusal> {
-    let widened = widen(list, y);
-    grow(l, list, widened)
-}
-
-/// Convert groups: a bit above l in any word is 4; then each nonzero string is widened and
-/// grown, in the given order.
+/// Convert groups: a bit above l in any word is 4; then each string is grown, in the given order.
 pub fn convert(l: u32, groups: &[u32]) -> Result<Vec<Entry>, Refusal> {
     if groups.iter().any(|group| group & !low_bits(l) != 0) {
         return Err(Refusal::Stray);
     }
-    let mut list = Vec::new();
-    for &group in groups.iter().filter(|&&group| group != 0) {
-        widen_and_grow(l, &mut list, Entry::of_group(l, group))?;
-    }
-    Ok(list)
+    let strings = groups.iter().map(|&group| Entry::of_group(l, group));
+    grown(l, &[], strings)
 }

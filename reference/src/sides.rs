@@ -1,7 +1,7 @@
 //! Change of side, join and projection (01, "The growth rule and what stands on it").
 
 use crate::entry::{rising_bits, Entry};
-use crate::growth::{grow, grow_all, grown, widen_and_grow};
+use crate::growth::{grow, grow_all, grown};
 use crate::refusal::Refusal;
 use crate::table::Side;
 
@@ -25,7 +25,7 @@ fn take_away(l: u32, list: &mut Vec<Entry>, v: Entry) -> Result<(), Refusal> {
                 care: y.care | bit,
                 value: y.value | (bit & !v.value),
             };
-            widen_and_grow(l, list, opposite)?;
+            grow(l, list, opposite)?;
         }
     }
     Ok(())

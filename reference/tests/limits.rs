@@ -2,7 +2,7 @@
 
 mod common;
 
-use common::{even_strings, SIDES};
+use common::{even_strings, pairs_table, JOINED, SIDES};
 use reference::entry::low_bits;
 use reference::growth::{convert, grow, widen};
 use reference::terms::head;
@@ -32,10 +32,10 @@ fn open_table(count: usize) -> Table {
 
 #[test]
 fn grow_takes_256_entries() {
-    let mut list = even_table(256).entries;
-    let before = list.clone();
-    let odd = Entry::of_group(10, 1);
-    assert_eq!(grow(10, &mut list, odd), Err(Refusal::Full));
+    let Table { mut entries, .. } = even_table(257);
+    let more = entries.pop().expect("257 entries");
+    let (mut list, before) = (entries.clone(), entries);
+    assert_eq!(grow(10, &mut list, more), Err(Refusal::Full));
     assert_eq!(list, before);
     assert_eq!(grow(10, &mut list, before[7]), Ok(()));
     assert_eq!(grow(10, &mut list, Entry::of_group(10, 0)), Ok(()));
@@ -45,22 +45,42 @@ fn grow_takes_256_entries() {
     assert_eq!((list.len(), list.last()), (256, Some(&wider)));
 }
 
+/// A string beside an entry becomes one with it, and takes its place in a full list.
+#[test]
+fn widening_leaves_room() {
+    let mut list = even_table(256).entries;
+    let (entry, odd) = (list[7], list[7].flip(1));
+    assert_eq!(grow(10, &mut list, odd), Ok(()));
+    assert_eq!((list.len(), list.last()), (256, Some(&entry.star(1))));
+    assert!(!list.contains(&entry));
+}
+
 #[test]
 fn join_is_full_at_entry_257() {
-    let one = Table {
-        l: 10,
-        entries: vec![Entry::of_group(10, 1)],
+    let Table { l, entries } = even_table(257);
+    for (cut, end, left) in [(255, 256, Ok(256)), (256, 257, Err(8)), (1, 257, Err(8))] {
+        let part = |entries: &[Entry]| Table {
+            l,
+            entries: entries.to_vec(),
+        };
+        let (first, second) = (part(&entries[..cut]), part(&entries[cut..end]));
+        let joined = operations::join(Side::Positive, &first, &second);
+        let counted = joined.map(|table| table.entries.len());
+        assert_eq!(counted.map_err(|refusal| refusal.number()), left);
+    }
+}
+
+/// The irrelevant entries and the joined ones make 256, or one more.
+#[test]
+fn equation_is_full_at_entry_257() {
+    let equation = |others| {
+        let given = pairs_table(others);
+        let after = operations::equation(Side::Positive, &given, 1, &[2]);
+        after.map(|table| table.entries.len())
     };
-    let joined = operations::join(Side::Positive, &even_table(255), &one);
-    assert_eq!(joined.map(|table| table.entries.len()), Ok(256));
-    assert_eq!(
-        operations::join(Side::Positive, &even_table(256), &one),
-        Err(Refusal::Full)
-    );
-    assert_eq!(
-        operations::join(Side::Positive, &one, &even_table(256)),
-        Err(Refusal::Full)
-    );
+    assert_eq!(equation(0), Ok(JOINED));
+    assert_eq!(equation(256 - JOINED), Ok(256));
+    assert_eq!(equation(257 - JOINED), Err(Refusal::Full));
 }
 
 /// Relevant t is made, and may be full, though relevant x is empty and so is their cross.

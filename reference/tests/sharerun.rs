@@ -2,11 +2,11 @@
 
 mod common;
 
-use common::{equations_form, some_table, some_term, table, SIDES};
+use common::{equations_form, pairs_table, some_table, some_term, table, JOINED, SIDES};
 use reference::byte_calls::{run, start, step, write};
 use reference::forms::{bytes_of, read_table};
 use reference::terms::head;
-use reference::{operations, report, Entry, Equation, Table};
+use reference::{operations, report, Equation, Table};
 use support::tables::form;
 use support::Random;
 
@@ -26,18 +26,9 @@ eq 2 entries 1
 110
 ";
 
-/// A table whose groups with X1 have so many unions that X1 = X2 is full where `pairs` is 9 or
-/// more: 2^pairs - 1 of them.
-fn pairs_table(pairs: u32) -> Table {
-    let mut words = vec![0b10];
-    words.extend((0..pairs).map(|i| 1 | 1 << (i + 2)));
-    Table {
-        l: 16,
-        entries: words
-            .iter()
-            .map(|&word| Entry::of_group(16, word))
-            .collect(),
-    }
+/// A table on which X1 = X2 is full.
+fn full_table() -> Table {
+    pairs_table(257 - JOINED)
 }
 
 /// The equation X1 = X2.
@@ -90,7 +81,7 @@ fn no_equation_prints_the_table_read() {
 
 #[test]
 fn full_equation_ends_the_run() {
-    let given = pairs_table(9);
+    let given = full_table();
     let ground = Equation {
         left: 16,
         term: vec![head(0, 0)],
@@ -102,9 +93,10 @@ fn full_equation_ends_the_run() {
         .iter()
         .map(|entry| entry.text(16) + "\n")
         .collect();
+    let n = given.entries.len();
     assert_eq!(
         text,
-        format!("vars 16 entries 10\n{entries}eq 1 entries 10\n{entries}eq 2 refused 8\n")
+        format!("vars 16 entries {n}\n{entries}eq 1 entries {n}\n{entries}eq 2 refused 8\n")
     );
     let state = run(0, &form(&given), &equations_form(&equations));
     assert_eq!((state.code, state.applied), (8, 1));
@@ -115,12 +107,12 @@ fn full_equation_ends_the_run() {
 fn lists_below_257_are_not_full() {
     let state = run(
         0,
-        &form(&pairs_table(8)),
+        &form(&pairs_table(256 - JOINED)),
         &equations_form(&[pair_equation()]),
     );
     assert_eq!(
         (state.code, state.applied, state.table.entries.len()),
-        (0, 1, 255)
+        (0, 1, 256)
     );
     let full = common::even_strings(257);
     assert_eq!(
@@ -141,7 +133,7 @@ fn run_checks_the_whole_input_first() {
     };
     let state = run(
         0,
-        &form(&pairs_table(9)),
+        &form(&full_table()),
         &equations_form(&[pair_equation(), bad]),
     );
     assert_eq!((state.code, state.applied), (5, 0));
@@ -185,7 +177,7 @@ fn run_and_running_analysis_agree() {
 
 #[test]
 fn refused_step_changes_nothing() {
-    let given = pairs_table(9);
+    let given = full_table();
     let mut state = start(0, &form(&given));
     for (variable, term, number) in [
         (1, bytes_of([2]), 8),

@@ -2,13 +2,13 @@
 
 mod common;
 
-use common::{some_table, table, text, SIDES};
+use common::{pairs_table, some_table, table, text, JOINED, SIDES};
 use reference::byte_calls::{run, start, step, unify, unify_run, unify_step};
 use reference::forms::{bytes_of, read_table, read_two_terms, table_length, write_two_terms};
 use reference::operations;
 use reference::terms::{head, TOKENS};
 use reference::unification::{walk, Clash, Term};
-use reference::{binary, groups, Entry, Refusal, Side, Table, TwoTerms};
+use reference::{binary, groups, Refusal, Side, Table, TwoTerms};
 use support::tables::{form, form_entries, LONGEST};
 use support::{Equations, Random, TermEquations};
 
@@ -196,13 +196,7 @@ fn nothing_found_leaves_the_table_as_given() {
 
 /// A table of 16 variables on which X1 = X2 is full and X16 = a is not.
 fn full_table() -> Table {
-    let mut words = vec![0b10];
-    words.extend((0..9).map(|i| 1 | 1 << (i + 2)));
-    let entries = words.iter().map(|&word| Entry::of_group(16, word));
-    Table {
-        l: 16,
-        entries: entries.collect(),
-    }
+    pairs_table(257 - JOINED)
 }
 
 /// A full equation refuses the whole call, also where others before it were applied; but a clash is

@@ -100,7 +100,7 @@ Table ${at[2]}:
     printf 'vars 2\n**\n_ = X1' >"$file"
     asked 0 "Table before the first equation:
     **0  any of X1, X2
-    001  _
+    00*  _
 Table after equation 1, _ = X1:
     0*0  X2
     1*1  X1, _, perhaps with X2" "" tables "$file"
@@ -163,28 +163,31 @@ wrong_goals() {
 
 # ---- Full equations
 
-# X1 to X16 each stand alone. X1 = X1 leaves that so; X1 with any of X2 to X15 would be more than 256 groups.
-full_file() { printf 'vars 16\nfree\nX1 = X1\n\n X1 = f(%s). %% full\nX1 = a\n' "$(lines 15 'X&' | paste -sd,)"; }
+# The entries of X1 to X16 where each may share with the next one.
+next_ones() { for i in {1..15}; do echo "$(times $((i - 1)) 0)11$(times $((15 - i)) 0)"; done; }
+
+# X1 = X1 leaves that so; X1 with X1 to X15 needs more than 256 entries.
+full_file() { printf 'vars 16\n%s\nX1 = X1\n\n X1 = f(%s). %% full\nX1 = a\n' "$(next_ones)" "$(lines 15 'X&' | paste -sd,)"; }
 
 full() {
     local equation said
     equation="X1 = f($(lines 15 'X&' | paste -sd,))"
     full_file >"$file"
-    said="$file:5:2: Equation 2 is full: it needs a table of more than 256 entries.
+    said="$file:19:2: Equation 2 is full: it needs a table of more than 256 entries.
      $equation. % full
      $(times ${#equation} ^)
     No answer can be given for a point after it. What is safe to go on with there is
     the all-star table, where every variable may share with every other: $(times 16 '*')
     Before it answers are given (--after 1), from what was known after equation 1, X1 = X1:
-$(for i in {2..16} 1; do echo "    $(times $((i - 1)) 0)1$(times $((16 - i)) 0)  X$i"; done)"
+$(for i in {2..15} 1; do echo "    $(times $((i - 1)) 0)11$(times $((15 - i)) 0)  X$i, X$((i + 1))"; done)"
     asked 2 "" "$said" apart "$file" X1 X2
     asked 2 "" "$said" apart "$file" X1 X2 --after 2
     asked 2 "" "$said" apart "$file" - - --after 3
     asked 2 "" "$said" pairs "$file"
-    asked 0 "X1 and X2: $yes after equation 1, X1 = X1" "" apart "$file" X1 X2 --after 1
+    asked 0 "X1 and X3: $yes after equation 1, X1 = X1" "" apart "$file" X1 X3 --after 1
     asked 1 "X1 and X1: $no before the first equation $shared" "" apart "$file" X1 X1 --after 0
     run pairs "$file" --after 1
-    same "pairs before a full equation" "0 120 " "$status $(grep -c "$yes after equation 1, X1 = X1\$" "$out") $(<"$err")"
+    same "pairs before a full equation" "0 105 " "$status $(grep -c "$yes after equation 1, X1 = X1\$" "$out") $(<"$err")"
     run tables "$file"
     same "tables of a full file" "2 $said" "$status $(<"$err")"
     same "the points in tables of a full file" "Table before the first equation:|Table after equation 1, X1 = X1:" \
@@ -194,7 +197,7 @@ $(for i in {2..16} 1; do echo "    $(times $((i - 1)) 0)1$(times $((16 - i)) 0) 
     same "status of input of a full file" "0" "$status$(<"$err")"
     sharerun_ends "eq 2 refused 8"
     # Full at once, with a variable in no group.
-    sed -i '/^X1 = X1$/d; s/^free/free X1,X2,X3,X4,X5,X6,X7,X8,X9,X10,X11,X12,X13,X14,X15/' "$file"
+    sed -i '/^X1 = X1$/d; /^0*11$/d' "$file"
     run pairs "$file"
     same "a file that is full at once" "2  $file: X16 is in no group: it counts as known" "$status $(<"$out") $(head -n 1 "$err")"
     same "what was known before" "    Before it answers are given (--after 0), from what was known before the first equation:" "$(sed -n 7p "$err")"

@@ -24,16 +24,18 @@ written_forms() {
     same "the packed form of standard input" "3 0 1 0 4" "$(numbers <"$out")"
     asked 2 "" "sharetext: --after 3 is no point of $file.
     Expected: a number from 0 to 2, how many of the equations have been applied." form "$file" --after 3 --packed
-    # Reading drops what is all zero or covered.
+    # Reading drops what is all zero or covered, and widens the rest.
     printf 'vars 3\n100\n000\n1*0\n110\n' >"$file"
     has_form "3 0 1 0 5 0 1 0" "3 0 1 0 7"
+    printf 'vars 2\n10\n11\n' >"$file"
+    has_form "2 0 1 0 1 0 1 0" "2 0 1 0 7"
     printf 'vars 6\n00000*\n*****1\n' >"$file"
     has_form "6 0 2 0 31 0 32 0 0 0 32 0" "6 0 2 0 0 2 242 1"
     printf 'vars 16\n****************\n' >"$file"
     has_form "16 0 1 0 0 0 0 0" "16 0 1 0 242 242 242 2"
     # Each _ has a position after the others.
     printf 'vars 2\n**\n_ = X1\n' >"$file"
-    has_form "3 0 2 0 4 0 7 0 0 0 4 0" "3 0 2 0 8 9" "--after 0"
+    has_form "3 0 2 0 4 0 3 0 0 0 0 0" "3 0 2 0 8 18" "--after 0"
     # A variable in no group is told as with every command.
     printf 'vars 2\n1*\nX1 = a\nX2 = X1\n' >"$file"
     has_form "2 0 0 0" "2 0 0 0"
@@ -48,11 +50,11 @@ full_forms() {
     for option in "" --packed; do
         # shellcheck disable=SC2086
         run form "$file" $option
-        same "form $option of a full file" "2 0 $file:5:2: Equation 2 is full: it needs a table of more than 256 entries." \
+        same "form $option of a full file" "2 0 $file:19:2: Equation 2 is full: it needs a table of more than 256 entries." \
             "$status $(wc -c <"$out") $(head -n 1 "$err")"
     done
     run form "$file" --packed --after 1
-    same "the packed form before a full equation" "0 68 16 0 16 0" "$status $(wc -c <"$out") $(head -c 4 "$out" | numbers)"
+    same "the packed form before a full equation" "0 64 16 0 15 0" "$status $(wc -c <"$out") $(head -c 4 "$out" | numbers)"
 }
 
 # ---- Files of a form

@@ -132,7 +132,7 @@ show() {
     full_file >"$file"
     status=0
     tools/show "$file" >"$out" 2>"$err" || status=$?
-    same "show of a full file" "2 $file:5:2: Equation 2 is full: it needs a table of more than 256 entries." "$status $(head -n 1 "$err")"
+    same "show of a full file" "2 $file:19:2: Equation 2 is full: it needs a table of more than 256 entries." "$status $(head -n 1 "$err")"
 }
 
 whole_run() {

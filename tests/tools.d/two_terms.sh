@@ -208,27 +208,29 @@ Equation 2 in line 4, A = B:
 
 # ---- Full equations
 
-# X1 to X16 each stand alone. The second equation finds X2 = X3 and then one that is full.
-full_pair_file() { printf 'vars 16\nfree\nf(X1) = f(X1)\n\n f(X2, X1%s) = f(X3, g(%s)%s). %% full\nX1 = a\n' "$1" "$(lines 15 'X&' | paste -sd,)" "$2"; }
+# Each of X1 to X16 may share with the next one. The second equation finds X1 = X2 and then one that is full.
+full_pair_file() {
+    printf 'vars 16\n%s\nf(X1) = f(X1)\n\n f(X1, X1%s) = f(X2, g(%s)%s). %% full\nX1 = a\n' "$(next_ones)" "$1" "$(lines 15 'X&' | paste -sd,)" "$2"
+}
 
 full_pairs() {
     local equation said
-    equation="f(X2, X1) = f(X3, g($(lines 15 'X&' | paste -sd,)))"
+    equation="f(X1, X1) = f(X2, g($(lines 15 'X&' | paste -sd,)))"
     full_pair_file "" "" >"$file"
-    said="$file:5:2: Equation 2 is full: it needs a table of more than 256 entries.
+    said="$file:19:2: Equation 2 is full: it needs a table of more than 256 entries.
      $equation. % full
      $(times ${#equation} ^)
     No answer can be given for a point after it. What is safe to go on with there is
     the all-star table, where every variable may share with every other: $(times 16 '*')
     Before it answers are given (--after 1), from what was known after equation 1, f(X1) = f(X1):
-$(for i in {2..16} 1; do echo "    $(times $((i - 1)) 0)1$(times $((16 - i)) 0)  X$i"; done)"
+$(for i in {2..15} 1; do echo "    $(times $((i - 1)) 0)11$(times $((15 - i)) 0)  X$i, X$((i + 1))"; done)"
     asked 2 "" "$said" apart "$file" X1 X2
     asked 2 "" "$said" pairs "$file"
-    asked 0 "X2 and X3: $yes after equation 1, f(X1) = f(X1)" "" apart "$file" X2 X3 --after 1
-    asked 1 "Equation 1 in line 3, f(X1) = f(X1):
+    asked 0 "X1 and X3: $yes after equation 1, f(X1) = f(X1)" "" apart "$file" X1 X3 --after 1
+    asked 1 "Equation 1 in line 17, f(X1) = f(X1):
     X1 = X1
-Equation 2 in line 5, $equation:
-    X2 = X3
+Equation 2 in line 19, $equation:
+    X1 = X2
     X1 = g($(lines 15 'X&' | paste -sd, | sed 's/,/, /g'))
     full: this needs a table of more than 256 entries, and nothing after it is applied" "" explain "$file"
     # With a clash behind it the same equation is not full.

@@ -32,7 +32,7 @@ fn close_unseen(
     l: u32,
     c: u64,
     row: &mut [u64; 256],
-    seen: &mut [u64; lists::filter::SLOTS],
+    seen: &mut [u64; lists::filter::SIZE],
 ) -> Grown
     requires { ⌜ (n ≤ 256) × (l ≤ 32) ⌝ }
     ensures within { λ r. ⌜ Within r ⌝ }
@@ -72,7 +72,7 @@ fn close_rest(
         → Makes l (now (list .exit)) r (fold close-with τ (drop from γ)))
         ⌝ }
 {
-    let mut seen = [words::zero(l); lists::filter::SLOTS];
+    let mut seen = [words::zero(l); lists::filter::SIZE];
     let mut k = n;
     let mut i = from;
     while i < cn {

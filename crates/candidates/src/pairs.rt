@@ -69,7 +69,7 @@ fn pairs_unseen(
 {
     // As a slice its length is known.
     let whole: &[u64] = &*list;
-    let mut seen = [words::zero(l); lists::filter::SLOTS];
+    let mut seen = [words::zero(l); lists::filter::SIZE];
     let mut n = 0;
     let mut i = 0;
     while i < an {

@@ -1,20 +1,18 @@
--- Rows of words: none above l, and the conversion of one word. Assumes nothing.
+-- Rows of words: none above l, and the strings that they stand for. Assumes nothing.
 use mathlib.Core.Path.{_≡_, sym, ap, _∙_}
-use mathlib.Core.Bool.{Bool, true, not, _&&_, and-assoc, and-true}
+use mathlib.Core.Bool.{Bool, true, _&&_, and-assoc, and-true}
 use mathlib.Core.List.{List, [], _∷_, map}
-use mathlib.Core.Option.{some}
 use Prim.Native.Nat.{ℕ, zero, suc, _+_, _-_, _^_, _≤_, _<_}
 use native.Mathlib.Nat.{not-suc-le-zero, le-of-suc-le-suc}
 use native.Mathlib.Numerals.{add-one}
-use borrow.Author.Tests.{eq-eqb, ne-eqb, ltb-true}
+use borrow.Author.Tests.{ltb-true}
 use lib.Dec.{ltb, leb}
 use lib.ListN.{length, getD, drop, drop-of-length-le, List·getD-map}
 use lib.Seq.{drop-cons}
-use Rattle.model.specs.Groups.{Bits}
-use Rattle.model.specs.Strings.{exactly}
-use Rattle.model.specs.Growth.{Entries, widen-grow, convert-one}
-use Rattle.words.specs.Words.{set, set-word}
-use Rattle.words.proofs.Codec.{nonzero-word, set-length, set-word-set}
+use Rattle.model.specs.Strings.{Trits, exactly}
+use Rattle.model.proofs.Strings.{exactly-length}
+use Rattle.words.specs.Words.{set, entry}
+use Rattle.words.proofs.Codec.{set-length, set-word-set, group-entry}
 use Rattle.tables.proofs.Tests.{below-full, both-true}
 use Rattle.conversion.specs.Conversion.{all-below}
 
@@ -42,24 +40,26 @@ below-at l [] i h lt = absurd (not-suc-le-zero lt)
 below-at l (w ∷ ws) zero h lt = ltb-true w (2 ^ l) (both-true (ltb w (2 ^ l)) (all-below l ws) h .0)
 below-at l (w ∷ ws) (suc i) h lt = below-at l ws i (both-true (ltb w (2 ^ l)) (all-below l ws) h .1) (le-of-suc-le-suc lt)
 
--- the string at an index of the row, and its word
-pub row-at : (l : ℕ) (ws : List ℕ) (i : ℕ) → getD (map (set l) ws) i (set l 0) ≡ set l (getD ws i 0)
-row-at l ws i = List·getD-map (set l) ws i 0
+-- ---- The strings of the words
 
-pub row-word : (l : ℕ) (ws : List ℕ) (i : ℕ) → all-below l ws ≡ true → i < length ws
-    → getD ws i 0 ≡ set-word (getD (map (set l) ws) i (set l 0))
-row-word l ws i h lt = sym (ap set-word (row-at l ws i) ∙ set-word-set l (getD ws i 0) (below-at l ws i h lt))
+-- the strings of l positions that the words stand for
+abbrev pub strings : ℕ → List ℕ → List Trits
+strings l ws = map exactly (map (set l) ws)
 
-pub row-length : (l : ℕ) (ws : List ℕ) (i : ℕ) → length (getD (map (set l) ws) i (set l 0)) ≡ l
-row-length l ws i = ap length (row-at l ws i) ∙ set-length l (getD ws i 0)
+-- past the row
+abbrev pub none : ℕ → Trits
+none l = exactly (set l 0)
 
--- ---- One word
+pub row-at : (l : ℕ) (ws : List ℕ) (i : ℕ) → getD (strings l ws) i (none l) ≡ exactly (set l (getD ws i 0))
+row-at l ws i = List·getD-map exactly (map (set l) ws) i (set l 0) ∙ ap exactly (List·getD-map (set l) ws i 0)
 
-module _ (τ : Entries) (g : Bits) (w : ℕ) (is : w ≡ set-word g) where
-  pub skips : w ≡ 0 → convert-one τ g ≡ some τ
-  unfolding convert-one
-  skips z = rw (nonzero-word g ∙ ap not (eq-eqb (set-word g) 0 (sym is ∙ z)))
+pub row-length : (l : ℕ) (ws : List ℕ) (i : ℕ) → length (getD (strings l ws) i (none l)) ≡ l
+row-length l ws i = ap length (row-at l ws i) ∙ exactly-length (set l (getD ws i 0)) ∙ set-length l (getD ws i 0)
 
-  pub converts : ¬ (w ≡ 0) → convert-one τ g ≡ widen-grow τ (exactly g)
-  unfolding convert-one
-  converts z = rw (nonzero-word g ∙ ap not (ne-eqb (set-word g) 0 (λ e. z (is ∙ e))))
+-- care and value of one, by its word
+pub row-entry : (l full : ℕ) (ws : List ℕ) (i : ℕ) → all-below l ws ≡ true → i < length ws → full ≡ 2 ^ l - 1
+    → record { care = full; value = getD ws i 0 } ≡ entry (getD (strings l ws) i (none l))
+row-entry l full ws i h lt f =
+    group-entry (set l (getD ws i 0)) full (getD ws i 0) l (set-length l (getD ws i 0)) f
+    (sym (set-word-set l (getD ws i 0) (below-at l ws i h lt)))
+    ∙ ap entry (sym (row-at l ws i))

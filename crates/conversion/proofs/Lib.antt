@@ -1,3 +1,1 @@
-pub mod NearEntries
-pub mod WideningByPasses
 pub mod Converting

@@ -9,10 +9,5 @@ pub mod Demand3
 pub mod Ends
 pub mod GoodStates
 pub mod OnEntries
-pub mod Example
-pub mod NegativeExample
-pub mod RunExample
-pub mod RunningExample
 pub mod Goals
-pub mod GoalsExample
 pub mod PackedForms

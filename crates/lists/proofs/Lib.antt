@@ -3,6 +3,9 @@ pub mod SoFar
 pub mod BindLaws
 pub mod RowLoops
 pub mod WordTests
+pub mod NearEntries
+pub mod WideningByPasses
+pub mod Edges
 pub mod Growing
 pub mod Absorption
 pub mod TableValues

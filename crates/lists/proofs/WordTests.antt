@@ -22,8 +22,8 @@ use Rattle.lists.proofs.RowLoops.{along-end, cond-not, PackedSoFar}
 
 -- ---- Tests
 
--- a test of the indexes that is a test of the strings there
-some-any : (p : ℕ → Bool) (q : Trits → Bool) (τ : Entries) (i : ℕ) → ((m : ℕ) → m < length τ → p (i + m) ≡ q (getD τ m []))
+-- A test of the indexes that is a test of the strings there.
+pub some-any : (p : ℕ → Bool) (q : Trits → Bool) (τ : Entries) (i : ℕ) → ((m : ℕ) → m < length τ → p (i + m) ≡ q (getD τ m []))
     → some-from i (length τ) p ≡ any q τ
 unfolding some-from any
 some-any p q [] i f = refl

@@ -1,2 +1,3 @@
 pub mod WorkingLists
+pub mod Widening
 pub mod Filters

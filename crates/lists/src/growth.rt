@@ -2,8 +2,7 @@
 use crate::Grown;
 use tables::Table;
 ghost use mathlib.Core.Path.{_≡_};
-ghost use mathlib.Core.Bool.{false, not, cond};
-ghost use lib.Dec.{ltb};
+ghost use mathlib.Core.Bool.{false, not};
 ghost use Prim.Native.Nat.{ℕ, _-_, _≤_, _<_};
 ghost use lib.ListN.{getD};
 ghost use Rattle.model.specs.Growth.{Entries, subsumed as subsumed-list, remove, append as append-to, grow as grow-list, grow-all};
@@ -13,7 +12,7 @@ ghost use Rattle.tables.specs.Values.{all-from};
 ghost use Rattle.lists.specs.WorkingLists.{Holds, OfString, Within, Makes, Free};
 
 // Does one of the strings from j up to end subsume y?
-fn some_subsumes(list: &[u64; 256], j: usize, end: usize, y: u64) -> bool
+pub fn some_subsumes(list: &[u64; 256], j: usize, end: usize, y: u64) -> bool
     requires { ⌜ (j ≤ end) × (end ≤ 256) ⌝ }
     ensures { λ r. ⌜ r ≡ some-from j (end - j) (λ i. subsumes-word (getD (now (list .entry)) i 0) y) ⌝ }
 {
@@ -141,28 +140,14 @@ pub fn grow(list: &mut [u64; 256], n: usize, l: u32, y: u64) -> Grown
         OfString l (now (list .entry)) n y (λ τ s. Makes l (now (list .exit)) r (grow-list τ s))
         ⌝ }
 {
-    if words::is_zero(l, y) {
+    let z = crate::widening::fresh(list, n, l, y);
+    if words::is_zero(l, z) {
         return Grown::Count(n);
     }
-    if subsumed(list, n, y) {
-        return Grown::Count(n);
-    }
-    insert(list, n, l, y)
+    insert(list, n, l, z)
 }
 
-// Of two words the lesser: a string that subsumes another has no bit more, so its word is never the greater one.
-fn lesser(a: u64, b: u64) -> u64
-    ensures { λ r. ⌜ r ≡ cond (ltb b a) b a ⌝ }
-{
-    if b < a {
-        return b;
-    }
-    a
-}
-
-// Grows the list by each of the m strings of a row, in order, up to the first that is full. A string once grown is absorbed:
-// it changes nothing when it comes again, nor does what it subsumes. `absorbed` is the widest such string so far; what it
-// subsumes is skipped.
+// Grows the list by each of the m strings of a row, in order, up to the first that is full.
 pub fn grow_each(list: &mut [u64; 256], n: usize, l: u32, row: &[u64; 256], m: usize) -> Grown
     requires { ⌜ (n ≤ 256) × (l ≤ 32) × (m ≤ 256) ⌝ }
     ensures within { λ r. ⌜ Within r ⌝ }
@@ -171,23 +156,18 @@ pub fn grow_each(list: &mut [u64; 256], n: usize, l: u32, row: &[u64; 256], m: u
         → Makes l (now (list .exit)) r (grow-all τ ρ))
         ⌝ }
 {
-    let mut absorbed = words::zero(l);
     let mut k = n;
     let mut j = 0;
     while j < m {
-        let y = row[j];
-        j += 1;
-        if !words::subsumes(absorbed, y) {
-            match grow(list, k, l, y) {
-                Grown::Count(c) => {
-                    k = c;
-                }
-                Grown::Full => {
-                    return Grown::Full;
-                }
+        match grow(list, k, l, row[j]) {
+            Grown::Count(c) => {
+                k = c;
             }
-            absorbed = lesser(absorbed, y);
+            Grown::Full => {
+                return Grown::Full;
+            }
         }
+        j += 1;
     }
     Grown::Count(k)
 }

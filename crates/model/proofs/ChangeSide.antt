@@ -1,5 +1,5 @@
 -- The change of side covers, among groups, exactly what the given table does not, and never what it covers. Assumes nothing.
-use mathlib.Core.Path.{_≡_, refl, sym, ap, ap₂, _∙_}
+use mathlib.Core.Path.{_≡_, refl, sym, ap, ap₂, _∙_, subst}
 use mathlib.Core.Bool.{Bool, true, false, not, _&&_, _||_, cond, or-false, or-assoc, or-comm, and-true, and-or-distrib-right}
 use mathlib.Core.List.{[], _∷_, _++_, map}
 use Prim.Native.Nat.{ℕ, zero, suc, _≤_, _<_}
@@ -9,14 +9,15 @@ use lib.ListN.{length}
 use Rattle.model.specs.Groups.{Bits, nonzero}
 use Rattle.model.specs.Strings.{Trit, t0, t1, t*, Trits, covers-digit, covers, match-digit, matches, fixed-digit, flip}
 use Rattle.model.specs.Strings.{opposed, all-zero, stars, pieces}
-use Rattle.model.specs.Growth.{Entries, fold, covered, Apart, Reduced}
+use Rattle.model.specs.Growth.{Entries, fold, covered, Reduced}
 use Rattle.model.specs.Tables.{Wide, unmatched, pieces-of, take-away, change-side}
 use Rattle.model.proofs.Tests.{and-first, and-second, and-both}
 use Rattle.model.proofs.Strings.{covers-length, both-match, stars-cover}
 use Rattle.model.proofs.Positions.{stars-length, opposed-length, pieces-nil, pieces-cons}
 use Rattle.model.proofs.Given.{Given, given, given-map, given-then}
 use Rattle.model.proofs.Growth.{covered-append, GrownBy}
-use Rattle.model.proofs.Shape.{wide-append, Shape, widen-grow-all-made}
+use Rattle.model.proofs.Shape.{wide-append, Shape, reduced-without, reduced-one, grow-all-made}
+use Rattle.model.proofs.Entries.{unmatched-without}
 use Rattle.model.proofs.Candidates.{front-covered, rising-wide}
 
 -- ---- Pieces: what y covers and v does not
@@ -118,28 +119,23 @@ pieces-of-wide l v (y ∷ τ) w = go (matches y v) (pieces-of-wide l v τ (w .1)
     go true h = wide-append l (pieces y v) (pieces-of v τ) (pieces-wide l y v (w .0)) h
     go false h = h
 
-apart-unmatched : (s v : Trits) (τ : Entries) → Apart s τ → Apart s (unmatched v τ)
-unfolding unmatched Apart
-apart-unmatched s v [] a = tt
-apart-unmatched s v (y ∷ τ) a = go (matches y v) (apart-unmatched s v τ (a .1))
+unmatched-wide : (l : ℕ) (v : Trits) (τ : Entries) → Wide l τ → Wide l (unmatched v τ)
+unfolding unmatched Wide
+unmatched-wide l v [] w = tt
+unmatched-wide l v (y ∷ τ) w = go (matches y v) (unmatched-wide l v τ (w .1))
   where
-    go : (b : Bool) → Apart s (unmatched v τ) → Apart s (cond b (unmatched v τ) (y ∷ unmatched v τ))
+    go : (b : Bool) → Wide l (unmatched v τ) → Wide l (cond b (unmatched v τ) (y ∷ unmatched v τ))
     go true h = h
-    go false h = (a .0, h)
+    go false h = (w .0, h)
 
--- the entries that do not match v are some of the entries
-unmatched-shape : {R : Type 0} (l : ℕ) (v : Trits) (τ : Entries) → Wide l τ → (R → Reduced τ)
-    → Wide l (unmatched v τ) × (length (unmatched v τ) ≤ length τ) × (R → Reduced (unmatched v τ))
-unfolding unmatched Wide Reduced
-unmatched-shape l v [] w r = (tt, omega arith, λ x. tt)
-unmatched-shape {R} l v (y ∷ τ) w r = go (matches y v) (unmatched-shape l v τ (w .1) (λ x. r x .2))
+unmatched-few : (v : Trits) (τ : Entries) → length (unmatched v τ) ≤ length τ
+unfolding unmatched
+unmatched-few v [] = omega arith
+unmatched-few v (y ∷ τ) = go (matches y v) (unmatched-few v τ)
   where
-    go : (b : Bool) → Wide l (unmatched v τ) × (length (unmatched v τ) ≤ length τ) × (R → Reduced (unmatched v τ))
-        → Wide l (cond b (unmatched v τ) (y ∷ unmatched v τ)) ×
-        (length (cond b (unmatched v τ) (y ∷ unmatched v τ)) ≤ suc (length τ)) ×
-        (R → Reduced (cond b (unmatched v τ) (y ∷ unmatched v τ)))
-    go true h = let n = h .1 in (h .0, omega arith, h .2)
-    go false h = let n = h .1 in ((w .0, h .0), omega arith, λ x. (r x .0, apart-unmatched y v τ (r x .1), h .2 x))
+    go : (b : Bool) → length (unmatched v τ) ≤ length τ → length (cond b (unmatched v τ) (y ∷ unmatched v τ)) ≤ suc (length τ)
+    go true h = omega arith
+    go false h = omega arith
 
 -- ---- The change of side
 
@@ -152,10 +148,12 @@ take-away-made : {R : Type 0} (l : ℕ) (τ : Entries) (v : Trits) → Shape R l
     → Given (λ (ρ : Entries). Shape R l ρ × GrownBy (unmatched v τ) (pieces-of v τ) ρ) (take-away τ v)
 unfolding take-away
 take-away-made l τ v sh =
-    let u = unmatched-shape l v τ (sh .wide) (sh .reduced) in
-    let n = u .1 in
-    widen-grow-all-made l (unmatched v τ) (pieces-of v τ)
-    (record { wide = u .0; few = omega arith; reduced = u .2 })
+    grow-all-made l (unmatched v τ) (pieces-of v τ)
+    (record {
+      wide = unmatched-wide l v τ (sh .wide);
+      few = omega (arith, unmatched-few v τ, sh .few);
+      reduced = λ r. subst Reduced (sym (unmatched-without v τ)) (reduced-without (λ y. matches y v) τ (sh .reduced r));
+    })
     (pieces-of-wide l v τ (sh .wide))
 
 regroup : (m c r : Bool) → ((m && not c) && not r) ≡ (m && not (c || r))
@@ -201,7 +199,7 @@ stars-nonzero zero h = λ z. omega arith
 stars-nonzero (suc l) h = λ z. z
 
 pub change-side-made : (l : ℕ) (τ : Entries) → Given (Changed l τ) (change-side l τ)
-unfolding change-side covered Wide Reduced Apart
+unfolding change-side covered Wide
 change-side-made l τ =
     given-map
     (λ ρ made. record {
@@ -215,4 +213,4 @@ change-side-made l τ =
           );
     })
     (change-from l (stars l ∷ []) τ
-    (record { wide = (stars-length l, tt); few = omega arith; reduced = λ h. (stars-nonzero l h, tt, tt) }))
+    (record { wide = (stars-length l, tt); few = omega arith; reduced = λ h. reduced-one (stars l) (stars-nonzero l h) }))

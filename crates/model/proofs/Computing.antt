@@ -2,9 +2,8 @@
 use Rattle.model.specs.Groups.{nonzero, has, meets, or, cut}
 use Rattle.model.specs.Strings.{covers, matches, meet, or-strings, subsumes, all-zero, exactly, stars, fixed, fixed-count}
 use Rattle.model.specs.Strings.{flipped, starred, opposed, one-at, zeros, rising, ones, pieces}
-use Rattle.model.specs.Growth.{_>>=_, fold, covered, subsumed, remove, append, grow, grow-all, widen-at, widen-from}
-use Rattle.model.specs.Growth.{widen}
-use Rattle.model.specs.Growth.{widen-grow, convert-one, convert}
+use Rattle.model.specs.Growth.{_>>=_, fold, covered, subsumed, remove, append, widen-at, widen-from, widen}
+use Rattle.model.specs.Growth.{absorbed, grow, grow-all, convert}
 use Rattle.model.specs.Tables.{meet-if, meets-with, meets-of, ors, unmatched, pieces-of, relevant, irrelevant, cross}
 use Rattle.model.specs.Tables.{close-with, close, take-away, change-side, positive-equation, negative-equation}
 use Rattle.model.specs.Tables.{equation-of-sets, positive-projection, projection}
@@ -20,7 +19,7 @@ unfolding strings opposed one-at zeros rising ones pieces meet-if meets-with mee
 candidates = tt
 
 unfoldable pub growth : Unit {0}
-unfolding _>>=_ fold covered subsumed remove append grow grow-all widen-at widen-from widen widen-grow convert-one convert
+unfolding _>>=_ fold covered subsumed remove append widen-at widen-from widen absorbed grow grow-all convert
 growth = tt
 
 unfoldable pub tables : Unit {0}

@@ -8,7 +8,7 @@ use Prim.Native.Nat.{ℕ}
 use lib.Dec.{T}
 use lib.ListN.{length}
 use Rattle.model.specs.Strings.{Trits, matches, subsumes, all-zero}
-use Rattle.model.specs.Growth.{Entries, subsumed, Apart}
+use Rattle.model.specs.Growth.{Entries, subsumed, remove, Apart}
 use Rattle.model.specs.Tables.{Wide, unmatched}
 use Rattle.model.specs.Widest.{EntryOf, fresh, Antichain}
 use Rattle.model.proofs.Tests.{or-cases, or-left, or-right}
@@ -130,7 +130,7 @@ antichain-append (x ∷ τ) ρ a b f = (
 -- ---- Some entries left out
 
 -- The entries for which p does not hold.
-unfoldable without : (Trits → Bool) → Entries → Entries
+unfoldable pub without : (Trits → Bool) → Entries → Entries
 without p [] = []
 without p (s ∷ τ) = cond (p s) (without p τ) (s ∷ without p τ)
 
@@ -166,7 +166,14 @@ antichain-without p (s ∷ τ) a = go (p s) (antichain-without p τ (a .1))
     go true h = h
     go false h = (entries-apart s (without p τ) (λ r e. apart-entry s τ (a .0) r (without-entry p τ r e .0)), h)
 
-unmatched-without : (v : Trits) (τ : Entries) → unmatched v τ ≡ without (λ y. matches y v) τ
+-- What y leaves of a list.
+pub remove-without : (y : Trits) (τ : Entries) → remove y τ ≡ without (subsumes y) τ
+unfolding remove without
+remove-without y [] = refl
+remove-without y (s ∷ τ) = ap (λ (r : Entries). cond (subsumes y s) r (s ∷ r)) (remove-without y τ)
+
+-- What v leaves of a list.
+pub unmatched-without : (v : Trits) (τ : Entries) → unmatched v τ ≡ without (λ y. matches y v) τ
 unfolding unmatched without
 unmatched-without v [] = refl
 unmatched-without v (y ∷ τ) = ap (λ (r : Entries). cond (matches y v) r (y ∷ r)) (unmatched-without v τ)

@@ -1,7 +1,7 @@
 -- Demand 2: wherever a procedure gives a table, its groups are exactly those of the binary definition. Assumes nothing.
 use mathlib.Core.Path.{_≡_, refl, _∙_, subst}
 use mathlib.Core.Bool.{Bool, true, false, cond}
-use mathlib.Core.List.{List, [], _∷_}
+use mathlib.Core.List.{List, [], _∷_, map}
 use mathlib.Core.Logic.{_↔_, _⊎_, inl, inr, ⊎-elim, ⊎-map, Iff·trans, Iff·symm}
 use mathlib.Core.Option.{some}
 use Prim.Native.Nat.{ℕ, _<_}
@@ -9,7 +9,7 @@ use lib.Dec.{T, T-not, not-T}
 use lib.ListN.{length}
 use Rattle.model.specs.Groups.{Bits, Groups, nonzero, AOrB, Those, Equated, Projected, Joined, Among, Listed}
 use Rattle.model.specs.Strings.{covers, exactly}
-use Rattle.model.specs.Growth.{Entries, fold, covered, widen-grow, convert-one, convert, Reduced}
+use Rattle.model.specs.Growth.{Entries, covered, convert, Reduced}
 use Rattle.model.specs.Tables.{Side, positive, negative, opposite, Wide, Good, groups, meets-of, change-side}
 use Rattle.model.specs.Tables.{positive-projection, kept, equation-of-sets, join, projection}
 use Rattle.model.specs.Questions.{Equal}
@@ -19,8 +19,7 @@ use Rattle.model.proofs.Tests.{not-not, nand, or-cases, or-left, or-rig
 use Rattle.model.proofs.Bits.{ors-map}
 use Rattle.model.proofs.Strings.{exactly-length, exactly-covers, exactly-one}
 use Rattle.model.proofs.Given.{Given, given, given-map, given-both, given-then, Each}
-use Rattle.model.proofs.Growth.{GrownByOne, widen-grow-by-one}
-use Rattle.model.proofs.Shape.{Shape, empty-shape, grow-all-made, widen-grow-shape}
+use Rattle.model.proofs.Shape.{Shape, empty-shape, grow-all-made}
 use Rattle.model.proofs.Candidates.{wide-long, meets-of-wide, meets-of-covered}
 use Rattle.model.proofs.ChangeSide.{change-side-made}
 use Rattle.model.proofs.Closing.{In, Stands, from-empty}
@@ -188,52 +187,23 @@ projection-made negative l k τ e w =
 
 -- ---- Convert
 
--- ρ covers among groups what τ covers and the strings gs themselves
-abbrev Converted : Entries → List Bits → Entries → Type 0
-Converted τ gs ρ = (g : Bits) → T (nonzero g) → T (covered ρ g) ↔ (T (covered τ g) ⊎ Among gs g)
+-- the strings of 0 and 1 cover just themselves
+listed-covered : (gs : List Bits) (g : Bits) → T (covered (map exactly gs) g) ↔ Among gs g
+unfolding covered Among
+listed-covered [] g = (λ h. h, λ h. h)
+listed-covered (h ∷ gs) g = (
+  λ c.
+      ⊎-elim (λ k. inl (exactly-one h g k)) (λ k. inr (listed-covered gs g .0 k))
+      (or-cases (covers (exactly h) g) (covered (map exactly gs) g) c),
+  ⊎-elim
+      (λ k. or-left (covers (exactly h) g) (covered (map exactly gs) g) (rw k (exactly-covers h)))
+      (λ k. or-right (covers (exactly h) g) (covered (map exactly gs) g) (listed-covered gs g .1 k)),
+)
 
-convert-one-made : (l : ℕ) (τ : Entries) (h : Bits) → Shape Unit l τ → length h ≡ l
-    → Given (λ (ρ : Entries). Shape Unit l ρ × Converted τ (h ∷ []) ρ) (convert-one τ h)
-unfolding convert-one Among
-convert-one-made l τ h sh e = go (nonzero h) refl
-  where
-    grown : (ρ : Entries) → GrownByOne τ (exactly h) ρ → Converted τ (h ∷ []) ρ
-    grown ρ made g n = (
-      λ c.
-          ⊎-elim inl (λ k. inr (inl (exactly-one h g k))) (or-cases (covered τ g) (covers (exactly h) g) (made .within g c)),
-      λ d.
-          rw (made .exact g n)
-          (⊎-elim (or-left (covered τ g) (covers (exactly h) g))
-          (⊎-elim (λ k. or-right (covered τ g) (covers (exactly h) g) (rw k (exactly-covers h))) (λ k. absurd k)) d),
-    )
-
-    skipped : nonzero h ≡ false → Converted τ (h ∷ []) τ
-    skipped z g n =
-        (inl, ⊎-elim (λ c. c) (⊎-elim (λ k. absurd (subst T z (subst (λ (x : Bits). T (nonzero x)) k n))) (λ k. absurd k)))
-
-    go : (b : Bool) → nonzero h ≡ b
-        → Given (λ (ρ : Entries). Shape Unit l ρ × Converted τ (h ∷ []) ρ) (cond b (widen-grow τ (exactly h)) (some τ))
-    go true z =
-        given-map (λ ρ made. (made .0, grown ρ (made .1)))
-        (given-both (widen-grow-shape l τ (exactly h) sh (exactly-length h ∙ e)) (widen-grow-by-one τ (exactly h)))
-    go false z = given (sh, skipped z)
-
-convert-from : (l : ℕ) (τ : Entries) (gs : List Bits) → Shape Unit l τ → Each (λ (g : Bits). length g ≡ l) gs
-    → Given (λ (ρ : Entries). Shape Unit l ρ × Converted τ gs ρ) (fold convert-one τ gs)
-unfolding fold Among Each
-convert-from l τ [] sh e = given (sh, λ g n. (inl, ⊎-elim (λ c. c) (λ k. absurd k)))
-convert-from l τ (h ∷ gs) sh e =
-    given-then _ (convert-one-made l τ h sh (e .0))
-    (λ ρ made.
-    given-map
-    (λ υ next. (
-      next .0,
-      λ g n. (
-        λ c. ⊎-elim (λ k. ⊎-map (λ x. x) (⊎-elim inl (λ a. absurd a)) (made .1 g n .0 k)) (λ k. inr (inr k)) (next .1 g n .0 c),
-        λ d. next .1 g n .1 (⊎-elim (λ k. inl (made .1 g n .1 (inl k))) (⊎-elim (λ k. inl (made .1 g n .1 (inr (inl k)))) inr) d),
-      ),
-    ))
-    (convert-from l ρ gs (made .0) (e .1)))
+listed-wide : (l : ℕ) (gs : List Bits) → Each (λ (g : Bits). length g ≡ l) gs → Wide l (map exactly gs)
+unfolding Each Wide
+listed-wide l [] e = tt
+listed-wide l (g ∷ gs) e = (exactly-length g ∙ e .0, listed-wide l gs (e .1))
 
 pub convert-made : (l : ℕ) (gs : List Bits) → Each (λ (g : Bits). length g ≡ l) gs
     → Given (StandsFor Unit positive l (Listed l gs)) (convert gs)
@@ -243,8 +213,8 @@ convert-made l gs e =
     (λ ρ made. record {
       shape = made .0;
       equal = λ g. (
-        λ h. (h .0, ⊎-elim (λ k. absurd k) (λ k. k) (made .1 g (h .0 .1) .0 (h .1))),
-        λ h. (h .0, made .1 g (h .0 .1) .1 (inr (h .1))),
+        λ h. (h .0, listed-covered gs g .0 (made .1 .within g (h .1))),
+        λ h. (h .0, rw (made .1 .exact g (h .0 .1)) (listed-covered gs g .1 (h .1))),
       );
     })
-    (convert-from l [] gs (empty-shape l) e)
+    (grow-all-made l [] (map exactly gs) (empty-shape l) (listed-wide l gs e))

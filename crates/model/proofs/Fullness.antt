@@ -1,31 +1,24 @@
 -- A procedure gives nothing exactly where some list of the growth rule in it needs entry 257. Assumes nothing.
-use mathlib.Core.Path.{_≡_, refl, ap}
-use mathlib.Core.Bool.{Bool, true, false, cond}
+use mathlib.Core.Path.{_≡_, refl}
 use mathlib.Core.List.{List, [], _∷_, _++_, map}
 use mathlib.Core.Logic.{inl, inr, ⊎-elim, _↔_}
 use mathlib.Core.Option.{Option, some, none}
 use Prim.Native.Nat.{ℕ}
-use native.Mathlib.Omega.{arith}
-use lib.Dec.{T}
-use Rattle.model.specs.Groups.{Bits, nonzero, or, cut}
+use Rattle.model.specs.Groups.{Bits, or, cut}
 use Rattle.model.specs.Strings.{Trits, exactly, zeros, ones, stars}
-use Rattle.model.specs.Growth.{_>>=_, fold, Entries, grow, widen, widen-grow, convert-one, convert, Overflows}
+use Rattle.model.specs.Growth.{_>>=_, Entries, convert, Overflows}
 use Rattle.model.specs.Tables.{Side, positive, negative, meets-of, ors, unmatched, pieces-of, relevant, irrelevant, cross}
 use Rattle.model.specs.Tables.{close-with, close, take-away, change-side, positive-equation, negative-equation}
 use Rattle.model.specs.Tables.{equation-of-sets, join, kept, positive-projection, projection}
-use Rattle.model.specs.Full.{Full, Meets, OrLater, CloseFull, ConvertFull, ChangeFull, PositiveFull, NegativeFull}
+use Rattle.model.specs.Full.{OrLater, CloseFull, ConvertFull, ChangeFull, PositiveFull, NegativeFull}
 use Rattle.model.specs.Full.{EquationFull, JoinFull, ProjectionFull, WalkFull}
 use Rattle.model.specs.Terms.{var, variables}
 use Rattle.model.specs.Equations.{equation}
 use Rattle.model.specs.Walk.{Walked}
 use Rattle.model.specs.Unification.{next-equation, walk-entries}
-use Rattle.model.proofs.Given.{fold-append}
-use Rattle.model.proofs.Overflow.{grow-none, full-none, full-exact}
+use Rattle.model.proofs.Overflow.{none-some, fold-full, grow-full, full-exact}
 
 -- ---- One step after another
-
-none-some : {A : Type 0} {a : A} {P : Type 0} → some a ≡ none → P
-none-some e = absurd (let z : _≡_ {A = ℕ} 0 1 = cc in omega arith)
 
 -- F and G say where a step, and what goes on from it, give nothing
 module _ {A B F : Type 0} {G : A → Type 0} {k : A → Option B} where
@@ -37,66 +30,12 @@ module _ {A B F : Type 0} {G : A → Type 0} {k : A → Option B} where
       later : ((b : A) × (some a ≡ some b) × G b) → k a ≡ none
       later h = let e : a ≡ h .0 = (let e = h .1 in cc) in rw e (g (h .0) .1 (h .2))
 
-module _ {S X : Type 0} {F : S → X → Type 0} (step : S → X → Option S) (exact : (s : S) (x : X) → (step s x ≡ none) ↔ F s x) where
-  none-meets : (s : S) (xs : List X) → fold step s xs ≡ none → Meets F step s xs
-  unfolding fold _>>=_
-  none-meets s [] e = none-some e
-  none-meets s (x ∷ xs) e = go (step s x) refl (λ t. none-meets t xs) e
-    where
-      go : (o : Option S) → step s x ≡ o → ((t : S) → fold step t xs ≡ none → Meets F step t xs)
-          → (o >>= λ t. fold step t xs) ≡ none → Meets F step s (x ∷ xs)
-      go none d rest h = record {
-        before = [];
-        x = x;
-        after = xs;
-        state = s;
-        is = refl;
-        reached = refl;
-        full = exact s x .0 d;
-      }
-      go (some t) d rest h =
-          let m = rest t h in
-          record {
-            before = x ∷ m .before;
-            x = m .x;
-            after = m .after;
-            state = m .state;
-            is = ap (λ (r : List X). x ∷ r) (m .is);
-            reached = rw d (m .reached);
-            full = m .full;
-          }
-
-  meets-none : (s : S) (xs : List X) → Meets F step s xs → fold step s xs ≡ none
-  unfolding fold _>>=_
-  meets-none s xs m =
-      rw (m .is, fold-append step s (m .before) (m .x ∷ m .after), m .reached, exact (m .state) (m .x) .1 (m .full))
-
-  fold-full : (s : S) (xs : List X) → (fold step s xs ≡ none) ↔ Meets F step s xs
-  fold-full s xs = (none-meets s xs, meets-none s xs)
-
 -- ---- The procedures
 
-grow-full : (τ : Entries) (y : Trits) → (grow τ y ≡ none) ↔ Full τ y
-grow-full τ y = (grow-none τ y, full-none τ y)
-
-widen-grow-full : (τ : Entries) (y : Trits) → (widen-grow τ y ≡ none) ↔ Full τ (widen τ y)
-unfolding widen-grow
-widen-grow-full τ y = grow-full τ (widen τ y)
-
-convert-one-full : (τ : Entries) (g : Bits) → (convert-one τ g ≡ none) ↔ (T (nonzero g) × Full τ (widen τ (exactly g)))
-unfolding convert-one
-convert-one-full τ g = go (nonzero g)
-  where
-    go : (b : Bool) → (cond b (widen-grow τ (exactly g)) (some τ) ≡ none) ↔ (T b × Full τ (widen τ (exactly g)))
-    go true =
-        let w = widen-grow-full τ (exactly g) in
-        (λ e. (tt, w .0 e), λ h. w .1 (h .1))
-    go false = (λ e. none-some e, λ h. absurd (h .0))
-
--- Convert gives nothing exactly where some nonzero string of the row, once it is widened, needs entry 257.
+-- Convert gives nothing exactly where some string of the row needs entry 257.
 pub convert-full : (gs : List Bits) → (convert gs ≡ none) ↔ ConvertFull gs
 unfolding convert
-convert-full gs = fold-full convert-one convert-one-full [] gs
+convert-full gs = full-exact [] (map exactly gs)
 
 close-with-full : (R : Entries) (c : Trits) → (close-with R c ≡ none) ↔ Overflows R (ors R (c ∷ []) ++ (c ∷ []))
 unfolding close-with
@@ -106,10 +45,13 @@ close-full : (cs : Entries) → (close cs ≡ none) ↔ CloseFull cs
 unfolding close
 close-full cs = fold-full close-with close-with-full [] cs
 
+take-away-full : (R : Entries) (v : Trits) → (take-away R v ≡ none) ↔ Overflows (unmatched v R) (pieces-of v R)
+unfolding take-away
+take-away-full R v = full-exact (unmatched v R) (pieces-of v R)
+
 pub change-full : (l : ℕ) (τ : Entries) → (change-side l τ ≡ none) ↔ ChangeFull l τ
-unfolding change-side take-away
-change-full l τ =
-    fold-full take-away (λ R v. fold-full widen-grow widen-grow-full (unmatched v R) (pieces-of v R)) (stars l ∷ []) τ
+unfolding change-side
+change-full l τ = fold-full take-away take-away-full (stars l ∷ []) τ
 
 cross-full : (α β : Entries) → (cross α β ≡ none) ↔ Overflows [] (ors α β)
 unfolding cross

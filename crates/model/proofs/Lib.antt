@@ -14,6 +14,7 @@ pub mod PositiveEquation
 pub mod ChangeSide
 pub mod Subsuming
 pub mod Entries
+pub mod Stability
 pub mod Pieces
 pub mod TakenAway
 pub mod Widest

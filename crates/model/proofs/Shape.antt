@@ -1,21 +1,24 @@
--- What growing keeps of a list: the length of its entries, the limit, and that it is reduced. Assumes nothing.
-use mathlib.Core.Path.{_≡_, refl, sym, ap, _∙_}
-use mathlib.Core.Bool.{Bool, true, false, _&&_, _||_, cond}
+-- What growing keeps of a list: the length of its entries, the limit, and that it is a grown list. Assumes nothing.
+use mathlib.Core.Path.{_≡_, refl, sym, ap, _∙_, subst}
+use mathlib.Core.Bool.{Bool, true, false, _||_, cond}
 use mathlib.Core.List.{List, [], _∷_, _++_, append-assoc, append-nil}
+use mathlib.Core.Logic.{_↔_}
 use mathlib.Core.Option.{Option, some}
-use Prim.Native.Nat.{ℕ, zero, suc, _+_, _≤_, _<_}
+use Prim.Native.Nat.{ℕ, suc, _+_, _≤_, _<_}
 use native.Mathlib.Omega.{arith}
 use lib.Dec.{T, ltb, lt→ltb}
 use lib.ListN.{length, length-append}
-use Rattle.model.specs.Strings.{Trits, subsumes, all-zero, fixed, fixed-count, flipped, starred}
-use Rattle.model.specs.Growth.{_>>=_, Entries, limit, fold, subsumed, remove, append, grow, grow-all, widen-at}
-use Rattle.model.specs.Growth.{widen-from}
-use Rattle.model.specs.Growth.{widen, widen-grow, Apart, Reduced}
+use Rattle.model.specs.Strings.{Trits, subsumes, all-zero}
+use Rattle.model.specs.Growth.{_>>=_, Entries, limit, fold, subsumed, remove, append, widen, absorbed, grow, grow-all}
+use Rattle.model.specs.Growth.{Apart, Irredundant, Stable, Reduced}
 use Rattle.model.specs.Tables.{Wide}
 use Rattle.model.proofs.Tests.{or-left, or-right, nor, true-of, false-of}
-use Rattle.model.proofs.Positions.{starred-length}
-use Rattle.model.proofs.Given.{Given, given-both, Each, fold-keeps}
-use Rattle.model.proofs.Growth.{grow-gives, GrownBy, grow-by-one, widen-grow-by-one, fold-grown}
+use Rattle.model.proofs.Given.{Given, given-at, given-both, Each, each, fold-keeps}
+use Rattle.model.proofs.Growth.{grow-gives, GrownBy, grow-all-by}
+use Rattle.model.proofs.Subsuming.{zero-subsumes, widen-up}
+use Rattle.model.proofs.Entries.{without, remove-without}
+use Rattle.model.proofs.Stability.{PartOf, widen-length, widen-twice, stable-part, stable-alone, part-without, stable-without}
+use Rattle.model.proofs.Stability.{stable-snoc}
 
 -- ---- Length of the entries
 
@@ -33,25 +36,34 @@ wide-remove l y (s ∷ τ) w = go (subsumes y s) (wide-remove l y τ (w .1))
     go true v = v
     go false v = (w .0, v)
 
--- ---- Reduced lists
+-- ---- Grown lists
 
-apart-remove : (s y : Trits) (τ : Entries) → Apart s τ → Apart s (remove y τ)
-unfolding remove Apart
-apart-remove s y [] a = tt
-apart-remove s y (r ∷ τ) a = go (subsumes y r) (apart-remove s y τ (a .1))
-  where
-    go : (b : Bool) → Apart s (remove y τ) → Apart s (cond b (remove y τ) (r ∷ remove y τ))
-    go true h = h
-    go false h = (a .0, h)
+-- some entries left out
+module _ (p : Trits → Bool) where
+  apart-without : (s : Trits) (τ : Entries) → Apart s τ → Apart s (without p τ)
+  unfolding without Apart
+  apart-without s [] a = tt
+  apart-without s (r ∷ τ) a = go (p r) (apart-without s τ (a .1))
+    where
+      go : (b : Bool) → Apart s (without p τ) → Apart s (cond b (without p τ) (r ∷ without p τ))
+      go true h = h
+      go false h = (a .0, h)
 
-reduced-remove : (y : Trits) (τ : Entries) → Reduced τ → Reduced (remove y τ)
-unfolding remove Reduced
-reduced-remove y [] h = tt
-reduced-remove y (s ∷ τ) h = go (subsumes y s) (reduced-remove y τ (h .2))
-  where
-    go : (b : Bool) → Reduced (remove y τ) → Reduced (cond b (remove y τ) (s ∷ remove y τ))
-    go true k = k
-    go false k = (h .0, apart-remove s y τ (h .1), k)
+  irredundant-without : (τ : Entries) → Irredundant τ → Irredundant (without p τ)
+  unfolding without Irredundant
+  irredundant-without [] h = tt
+  irredundant-without (s ∷ τ) h = go (p s) (irredundant-without τ (h .2))
+    where
+      go : (b : Bool) → Irredundant (without p τ) → Irredundant (cond b (without p τ) (s ∷ without p τ))
+      go true k = k
+      go false k = (h .0, apart-without s τ (h .1), k)
+
+  -- A grown list with some entries left out is one.
+  pub reduced-without : (τ : Entries) → Reduced τ → Reduced (without p τ)
+  reduced-without τ h = record {
+    irredundant = irredundant-without τ (h .irredundant);
+    stable = stable-without p [] [] τ (λ r k. k) (h .stable);
+  }
 
 -- y is apart from what it leaves of a list that does not subsume it
 apart-after : (y : Trits) (τ : Entries) → ¬ (T (subsumed τ y)) → Apart y (remove y τ)
@@ -69,29 +81,53 @@ unfolding Apart
 apart-append s [] ρ a b = b
 apart-append s (r ∷ τ) ρ a b = (a .0, apart-append s τ ρ (a .1) b)
 
-reduced-snoc : (τ : Entries) (y : Trits) → Reduced τ → ¬ (T (all-zero y)) → Apart y τ → Reduced (τ ++ (y ∷ []))
-unfolding Reduced Apart
-reduced-snoc [] y h z a = (z, tt, tt)
-reduced-snoc (s ∷ τ) y h z a = (h .0, apart-append s τ (y ∷ []) (h .1) ((a .0 .1, a .0 .0), tt), reduced-snoc τ y (h .2) z (a .1))
+irredundant-snoc : (τ : Entries) (y : Trits) → Irredundant τ → ¬ (T (all-zero y)) → Apart y τ → Irredundant (τ ++ (y ∷ []))
+unfolding Irredundant Apart
+irredundant-snoc [] y h z a = (z, tt, tt)
+irredundant-snoc (s ∷ τ) y h z a =
+    (h .0, apart-append s τ (y ∷ []) (h .1) ((a .0 .1, a .0 .0), tt), irredundant-snoc τ y (h .2) z (a .1))
 
--- y appended to what it leaves of a reduced list
-reduced-grown : (τ : Entries) (y : Trits) → Reduced τ → ¬ (T (all-zero y || subsumed τ y)) → Reduced (remove y τ ++ (y ∷ []))
+-- A string that is not all zero is not all zero once it is widened.
+pub widen-nonzero : (τ : Entries) (y : Trits) → ¬ (T (all-zero y)) → ¬ (T (all-zero (widen τ y)))
+widen-nonzero τ y n z = n (subst (λ (s : Trits). T (all-zero s)) (zero-subsumes (widen τ y) y z (widen-up τ y)) z)
+
+-- the widened y appended to what it leaves of a grown list
+reduced-grown : (τ : Entries) (y : Trits) → Reduced τ → ¬ (T (absorbed τ y))
+    → Reduced (remove (widen τ y) τ ++ (widen τ y ∷ []))
+unfolding absorbed
 reduced-grown τ y h n =
-    reduced-snoc (remove y τ) y (reduced-remove y τ h)
-    (λ z. n (or-left (all-zero y) (subsumed τ y) z))
-    (apart-after y τ (λ k. n (or-right (all-zero y) (subsumed τ y) k)))
+    let z = widen τ y in
+    let is = remove-without z τ in
+    let kept = subst Reduced (sym is) (reduced-without (subsumes z) τ h) in
+    let part = subst (λ (r : Entries). PartOf r τ) (sym is) (part-without (subsumes z) τ) in
+    record {
+      irredundant = irredundant-snoc (remove z τ) z (kept .irredundant)
+          (widen-nonzero τ y (λ o. n (or-left (all-zero y) (subsumed τ z) o)))
+          (apart-after z τ (λ k. n (or-right (all-zero y) (subsumed τ z) k)));
+      stable = stable-snoc [] (remove z τ) z (kept .stable) (stable-part (remove z τ) τ z part (widen-twice τ y));
+    }
+
+-- The empty list is a grown list.
+pub reduced-empty : Reduced []
+unfolding Irredundant Stable
+reduced-empty = record { irredundant = tt; stable = tt }
+
+-- So is a list of one entry that is not all zero.
+pub reduced-one : (y : Trits) → ¬ (T (all-zero y)) → Reduced (y ∷ [])
+unfolding Irredundant Stable Apart
+reduced-one y n = record { irredundant = (n, tt, tt); stable = (stable-alone y, tt) }
 
 -- ---- What growing keeps
 
--- The entries have l positions, there are at most 256, and under R the list is reduced.
+-- The entries have l positions, there are at most 256, and under R it is a grown list.
 pub record Shape (R : Type 0) (l : ℕ) (τ : Entries) : Type 0 where
   pub wide : Wide l τ
   pub few : length τ ≤ limit
   pub reduced : R → Reduced τ
 
 pub empty-shape : {R : Type 0} (l : ℕ) → Shape R l []
-unfolding Wide Reduced
-empty-shape l = record { wide = tt; few = omega arith; reduced = λ r. tt }
+unfolding Wide
+empty-shape l = record { wide = tt; few = omega arith; reduced = λ r. reduced-empty }
 
 pub snoc-length : (τ : Entries) (y : Trits) → length (τ ++ (y ∷ [])) ≡ suc (length τ)
 snoc-length τ y = length-append τ (y ∷ []) ∙ omega arith
@@ -104,61 +140,34 @@ unfolding Wide
 grow-shape l τ y sh e =
     grow-gives τ y (λ h. sh)
     (λ n room. record {
-      wide = wide-append l (remove y τ) (y ∷ []) (wide-remove l y τ (sh .wide)) (e, tt);
-      few = omega (arith, snoc-length (remove y τ) y);
+      wide =
+          wide-append l (remove (widen τ y) τ) (widen τ y ∷ []) (wide-remove l (widen τ y) τ (sh .wide))
+          (widen-length τ y ∙ e, tt);
+      few = omega (arith, snoc-length (remove (widen τ y) τ) (widen τ y));
       reduced = λ r. reduced-grown τ y (sh .reduced r) n;
     })
-
-widen-at-length : (τ : Entries) (i : ℕ) (y : Trits) → length (widen-at τ i y) ≡ length y
-unfolding widen-at
-widen-at-length τ i y = go (ltb 1 (fixed-count y) && fixed i y && subsumed τ (flipped i y))
-  where
-    go : (b : Bool) → length (cond b (starred i y) y) ≡ length y
-    go true = starred-length i y
-    go false = refl
-
-widen-from-length : (τ : Entries) (i n : ℕ) (y : Trits) → length (widen-from τ i n y) ≡ length y
-unfolding widen-from
-widen-from-length τ i zero y = refl
-widen-from-length τ i (suc n) y = widen-from-length τ (suc i) n (widen-at τ i y) ∙ widen-at-length τ i y
-
-pub widen-length : (τ : Entries) (y : Trits) → length (widen τ y) ≡ length y
-unfolding widen
-widen-length τ y = widen-from-length τ 0 (length y) y
-
-pub widen-grow-shape : {R : Type 0} (l : ℕ) (τ : Entries) (y : Trits) → Shape R l τ → length y ≡ l
-    → Given (Shape R l) (widen-grow τ y)
-unfolding widen-grow
-widen-grow-shape l τ y sh e = grow-shape l τ (widen τ y) sh (widen-length τ y ∙ e)
 
 each-wide : (l : ℕ) (τ : Entries) → Wide l τ → Each (λ (s : Trits). length s ≡ l) τ
 unfolding Each Wide
 each-wide l [] w = tt
 each-wide l (s ∷ τ) w = (w .0, each-wide l τ (w .1))
 
--- Growing, and widening and growing, keep the shape and add what the strings cover.
+-- Growing keeps the shape and adds what the strings cover.
 pub grow-all-made : {R : Type 0} (l : ℕ) (τ : Entries) (ys : List Trits) → Shape R l τ → Wide l ys
     → Given (λ (ρ : Entries). Shape R l ρ × GrownBy τ ys ρ) (grow-all τ ys)
-unfolding grow-all
 grow-all-made l τ ys sh w =
-    given-both (fold-keeps grow (λ ρ y. grow-shape l ρ y) τ ys sh (each-wide l ys w)) (fold-grown grow grow-by-one τ ys)
+    given-both (unfold grow-all in fold-keeps grow (λ ρ y. grow-shape l ρ y) τ ys sh (each-wide l ys w)) (grow-all-by τ ys)
 
-pub widen-grow-all-made : {R : Type 0} (l : ℕ) (τ : Entries) (ys : List Trits) → Shape R l τ → Wide l ys
-    → Given (λ (ρ : Entries). Shape R l ρ × GrownBy τ ys ρ) (fold widen-grow τ ys)
-widen-grow-all-made l τ ys sh w =
-    given-both (fold-keeps widen-grow (λ ρ y. widen-grow-shape l ρ y) τ ys sh (each-wide l ys w))
-    (fold-grown widen-grow widen-grow-by-one τ ys)
-
--- ---- Growing a reduced list again gives it back
+-- ---- A grown list is one that growing from empty by its own entries gives back
 
 apart-head : (s y : Trits) (τ ys : Entries) → Apart s (τ ++ (y ∷ ys)) → ¬ (T (subsumes s y)) × ¬ (T (subsumes y s))
 unfolding Apart
 apart-head s y [] ys h = h .0
 apart-head s y (r ∷ τ) ys h = apart-head s y τ ys (h .1)
 
--- the next entry of a reduced list is not all zero and is apart from those before it
-next-clear : (τ : Entries) (y : Trits) (ys : Entries) → Reduced (τ ++ (y ∷ ys)) → ¬ (T (all-zero y)) × Apart y τ
-unfolding Reduced Apart
+-- the next entry is not all zero and is apart from those before it
+next-clear : (τ : Entries) (y : Trits) (ys : Entries) → Irredundant (τ ++ (y ∷ ys)) → ¬ (T (all-zero y)) × Apart y τ
+unfolding Irredundant Apart
 next-clear [] y ys h = (h .0, tt)
 next-clear (s ∷ τ) y ys h =
     let c = next-clear τ y ys (h .2) in
@@ -175,30 +184,43 @@ unfolding remove Apart
 nothing-removed [] y a = refl
 nothing-removed (s ∷ τ) y a = rw (false-of (subsumes y s) (a .0 .0)) (ap (λ (r : Entries). s ∷ r) (nothing-removed τ y (a .1)))
 
--- Growing by a string that is apart from every entry appends it.
-pub grow-apart : (τ : Entries) (y : Trits) → ¬ (T (all-zero y)) → Apart y τ → grow τ y ≡ append τ y
-unfolding grow
-grow-apart τ y z a =
+-- Growing by a stable string that is apart from every entry appends it.
+pub grow-apart : (τ : Entries) (y : Trits) → ¬ (T (all-zero y)) → Apart y τ → widen τ y ≡ y → grow τ y ≡ append τ y
+unfolding grow absorbed
+grow-apart τ y z a e =
     rw (
+      e,
       false-of (all-zero y || subsumed τ y) (nor (all-zero y) (subsumed τ y) z (not-subsumed τ y a)),
       nothing-removed τ y a,
     )
 
-grow-clear : (τ : Entries) (y : Trits) → ¬ (T (all-zero y)) → Apart y τ → length τ < limit → grow τ y ≡ some (τ ++ (y ∷ []))
+grow-clear : (τ : Entries) (y : Trits) → ¬ (T (all-zero y)) → Apart y τ → widen τ y ≡ y → length τ < limit
+    → grow τ y ≡ some (τ ++ (y ∷ []))
 unfolding append
-grow-clear τ y z a room = rw (grow-apart τ y z a, true-of (ltb (length τ) limit) (lt→ltb (length τ) limit room))
+grow-clear τ y z a e room = rw (grow-apart τ y z a e, true-of (ltb (length τ) limit) (lt→ltb (length τ) limit room))
 
-regrow-from : (τ ys : Entries) → Reduced (τ ++ ys) → length (τ ++ ys) ≤ limit → fold grow τ ys ≡ some (τ ++ ys)
-unfolding fold _>>=_
-regrow-from τ [] h few = ap {B = Option Entries} some (sym (append-nil τ))
-regrow-from τ (y ∷ ys) h few =
+regrow-from : (τ ys : Entries) → Irredundant (τ ++ ys) → Stable τ ys → length (τ ++ ys) ≤ limit
+    → fold grow τ ys ≡ some (τ ++ ys)
+unfolding fold _>>=_ Stable
+regrow-from τ [] h s few = ap {B = Option Entries} some (sym (append-nil τ))
+regrow-from τ (y ∷ ys) h s few =
     let c = next-clear τ y ys h in
     let n : length (τ ++ (y ∷ ys)) ≡ length τ + suc (length ys) = length-append τ (y ∷ ys) in
     let a : (τ ++ (y ∷ [])) ++ ys ≡ τ ++ (y ∷ ys) = append-assoc τ (y ∷ []) ys in
-    rw (grow-clear τ y (c .0) (c .1) (omega arith))
-    (regrow-from (τ ++ (y ∷ [])) ys (rw a h) (rw a few) ∙ ap {B = Option Entries} some a)
+    rw (grow-clear τ y (c .0) (c .1) (s .0) (omega arith))
+    (regrow-from (τ ++ (y ∷ [])) ys (rw a h) (s .1) (rw a few) ∙ ap {B = Option Entries} some a)
 
--- Growing a reduced list again, entry by entry from empty, gives it back.
+-- Growing a grown list again, entry by entry from empty, gives it back.
 pub regrown : (τ : Entries) → Reduced τ → length τ ≤ limit → grow-all [] τ ≡ some τ
 unfolding grow-all
-regrown τ h few = regrow-from [] τ h few
+regrown τ h few = regrow-from [] τ (h .irredundant) (h .stable) few
+
+-- What is grown from empty is a grown list.
+pub grown-reduced : (ys : List Trits) (ρ : Entries) → grow-all [] ys ≡ some ρ → Reduced ρ
+unfolding grow-all
+grown-reduced ys ρ e =
+    given-at (fold-keeps grow (λ τ y h u. grow-reduced τ y h) [] ys reduced-empty (each (λ y. tt {0}) ys)) ρ e
+
+-- A list of at most 256 entries is a grown list exactly if growing it from empty gives it back.
+pub regrown-exact : (τ : Entries) → length τ ≤ limit → Reduced τ ↔ (grow-all [] τ ≡ some τ)
+regrown-exact τ few = (λ h. regrown τ h few, grown-reduced τ τ)

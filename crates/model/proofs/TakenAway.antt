@@ -9,11 +9,13 @@ use Prim.Native.Nat.{ℕ}
 use lib.Dec.{T, ltb, T-not, not-T}
 use lib.ListN.{length}
 use Rattle.model.specs.Strings.{Trits, matches, subsumes, all-zero}
-use Rattle.model.specs.Growth.{_>>=_, Entries, limit, fold, subsumed, append, grow, widen, widen-grow, Apart}
+use Rattle.model.specs.Growth.{_>>=_, Entries, limit, fold, subsumed, append, widen, absorbed, grow, grow-all}
+use Rattle.model.specs.Growth.{Apart}
 use Rattle.model.specs.Tables.{unmatched, pieces-of, take-away}
 use Rattle.model.specs.Widest.{avoids, EntryOf, opposed-count, edges, fresh, append-all, Antichain, Complement}
 use Rattle.model.proofs.Tests.{or-cases, or-left, or-right, and-first, and-second, and-both, true-of, false-of}
 use Rattle.model.proofs.Tests.{decide}
+use Rattle.model.proofs.Growth.{grow-absorbed}
 use Rattle.model.proofs.Shape.{apart-append, grow-apart}
 use Rattle.model.proofs.Pieces.{PieceOf, piece-unmatched, piece-within, piece-up, piece-only, piece-edge}
 use Rattle.model.proofs.Pieces.{pieces-of-are, pieces-of-antichain, pieces-of-found}
@@ -110,27 +112,27 @@ module _ (l : ℕ) (τ ρ : Entries) (v : Trits) (c : Complement l τ ρ) where
     free : (s : Trits) → EntryOf L s → Free s
     more : (s : Trits) → T (subsumed kept s) → T (subsumed L s)
 
-  -- growing by a widened piece changes nothing or appends the piece as it is
+  -- growing by a piece changes nothing or appends the piece as it is
   step : (L : Entries) → Along L → (z : Trits) → PieceOf v ρ z → (¬ (T (stale z)) → Apart z L)
-      → widen-grow L z ≡ cond (stale z) (some L) (append L z)
-  unfolding widen-grow grow
+      → grow L z ≡ cond (stale z) (some L) (append L z)
+  unfolding absorbed
   step L a z p q =
       go (decide (stale z)) (wider z (widen L z) p (widen-up L z)
       (widen-avoids (τ ++ (v ∷ [])) L z (a .free) (piece-free z p)))
     where
-      absorbed : T (stale z) → (widen L z ≡ z) ⊎ T (subsumed kept (widen L z))
-          → T (all-zero (widen L z) || subsumed L (widen L z))
-      absorbed h (inl e) =
-          rw e (⊎-elim (or-left (all-zero z) (subsumed L z)) (λ k. or-right (all-zero z) (subsumed L z) (a .more z k))
-          (or-cases (all-zero z) (subsumed kept z) h))
-      absorbed h (inr k) = or-right (all-zero (widen L z)) (subsumed L (widen L z)) (a .more (widen L z) k)
+      changes-nothing : T (stale z) → (widen L z ≡ z) ⊎ T (subsumed kept (widen L z)) → T (absorbed L z)
+      changes-nothing h w =
+          ⊎-elim (or-left (all-zero z) (subsumed L (widen L z)))
+          (λ k. or-right (all-zero z) (subsumed L (widen L z)) (a .more (widen L z)
+          (⊎-elim (λ e. subst (λ (s : Trits). T (subsumed kept s)) (sym e) k) (λ q. q) w)))
+          (or-cases (all-zero z) (subsumed kept z) h)
 
       go : Dec (T (stale z)) → (widen L z ≡ z) ⊎ T (subsumed kept (widen L z))
-          → grow L (widen L z) ≡ cond (stale z) (some L) (append L z)
-      go (yes h) w = rw (true-of (stale z) h, true-of (all-zero (widen L z) || subsumed L (widen L z)) (absorbed h w))
+          → grow L z ≡ cond (stale z) (some L) (append L z)
+      go (yes h) w = rw (true-of (stale z) h) (grow-absorbed L z (changes-nothing h w))
       go (no n) (inl e) =
-          rw (e, false-of (stale z) n)
-          (grow-apart L z (λ o. n (or-left (all-zero z) (subsumed kept z) o)) (q n))
+          rw (false-of (stale z) n)
+          (grow-apart L z (λ o. n (or-left (all-zero z) (subsumed kept z) o)) (q n) e)
       go (no n) (inr k) =
           absurd (n (or-right (all-zero z) (subsumed kept z)
           (subsumed-within kept (widen L z) z k (widen-up L z))))
@@ -145,7 +147,7 @@ module _ (l : ℕ) (τ ρ : Entries) (v : Trits) (c : Complement l τ ρ) where
 
   steps : (L zs : Entries) → Along L → ((z : Trits) → EntryOf zs z → PieceOf v ρ z)
       → ((z : Trits) → EntryOf zs z → ¬ (T (stale z)) → Apart z L) → Antichain zs
-      → fold widen-grow L zs ≡ append-all L (fresh kept zs)
+      → fold grow L zs ≡ append-all L (fresh kept zs)
   unfolding _>>=_ fold append-all fresh EntryOf Antichain Apart
   steps L [] a p q d = refl
   steps L (z ∷ zs) a p q d =
@@ -154,13 +156,13 @@ module _ (l : ℕ) (τ ρ : Entries) (v : Trits) (c : Complement l τ ρ) where
       (steps (L ++ (z ∷ [])) zs (along-append L a z (p z (inl refl))) (λ x i. p x (inr i))
       (λ x i n. let k = apart-entry z zs (d .0) x i in apart-append x L (z ∷ []) (q x (inr i) n) ((k .1, k .0), tt)) (d .1)))
     where
-      go : (b : Bool) → fold widen-grow L zs ≡ append-all L (fresh kept zs)
-          → fold widen-grow (L ++ (z ∷ [])) zs ≡ append-all (L ++ (z ∷ [])) (fresh kept zs)
-          → (cond b (some L) (append L z) >>= λ t. fold widen-grow t zs)
+      go : (b : Bool) → fold grow L zs ≡ append-all L (fresh kept zs)
+          → fold grow (L ++ (z ∷ [])) zs ≡ append-all (L ++ (z ∷ [])) (fresh kept zs)
+          → (cond b (some L) (append L z) >>= λ t. fold grow t zs)
           ≡ append-all L (cond b (fresh kept zs) (z ∷ fresh kept zs))
       go true e f = e
       go false e f =
-          append-then L z (λ t. fold widen-grow t zs) (λ t. append-all t (fresh kept zs)) f
+          append-then L z (λ t. fold grow t zs) (λ t. append-all t (fresh kept zs)) f
 
   -- The pieces that are appended.
   abbrev pub left : Entries
@@ -175,7 +177,7 @@ module _ (l : ℕ) (τ ρ : Entries) (v : Trits) (c : Complement l τ ρ) where
 
   -- Taking v away only appends.
   pub taken : take-away ρ v ≡ append-all kept left
-  unfolding take-away
+  unfolding take-away grow-all
   taken =
       steps kept (pieces-of v ρ) (record { free = kept-free; more = λ s h. h }) of-pieces left-apart
       (pieces-of-antichain v ρ (c .apart))

@@ -7,7 +7,8 @@ use mathlib.Core.Option.{Option, some, none}
 use Prim.Native.Nat.{ℕ, _<_}
 use native.Mathlib.Omega.{arith}
 use Rattle.model.specs.Groups.{Bits, Groups, AOrB, Those}
-use Rattle.model.specs.Growth.{fold, Entries, covered, Reduced, Apart}
+use Rattle.model.specs.Strings.{stars}
+use Rattle.model.specs.Growth.{fold, Entries, covered, Reduced}
 use Rattle.model.specs.Tables.{Side, positive, negative, Wide, Good, groups}
 use Rattle.model.specs.Questions.{Equal}
 use Rattle.model.specs.Equations.{Equation, WithVariable, WithSome, After, equation}
@@ -17,6 +18,7 @@ use Rattle.model.proofs.Bits.{ors-map}
 use Rattle.model.proofs.Given.{Given, nothing, given, given-at, given-map, given-then}
 use Rattle.model.proofs.Strings.{stars-cover}
 use Rattle.model.proofs.Positions.{stars-length}
+use Rattle.model.proofs.Shape.{reduced-empty, reduced-one}
 use Rattle.model.proofs.ChangeSide.{stars-nonzero}
 use Rattle.model.proofs.Demand2.{equation-exact, equation-good}
 
@@ -64,16 +66,16 @@ one-made side l e τ w = go (equation side l e τ) refl
         given (record { good = m .0; exact = equation-exact side l e τ ρ w p; reduced = λ h r. m .1 })
 
 none-made : (side : Side) (l : ℕ) (τ : Entries) → Made side l (λ g. ⊥) τ (no-groups side l)
-unfolding no-groups groups covered Wide Reduced Apart
+unfolding no-groups groups covered Wide
 none-made positive l τ = record {
   good = record { wide = tt; few = omega arith };
   exact = λ g. (λ k. k .1, λ k. absurd k);
-  reduced = λ h r. tt;
+  reduced = λ h r. reduced-empty;
 }
 none-made negative l τ = record {
   good = record { wide = (stars-length l, tt); few = omega arith };
   exact = λ g. (λ k. k .1 (rw (stars-cover l g (k .0 .0)) tt), λ k. absurd k);
-  reduced = λ h r. (stars-nonzero l h, tt, tt);
+  reduced = λ h r. reduced-one (stars l) (stars-nonzero l h);
 }
 
 module _ (side : Side) (l : ℕ) where

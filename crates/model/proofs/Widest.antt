@@ -10,7 +10,7 @@ use lib.Dec.{T}
 use lib.ListN.{length}
 use Rattle.model.specs.Groups.{Bits, nonzero}
 use Rattle.model.specs.Strings.{t0, t1, t*, Trits, covers, subsumes, all-zero, stars}
-use Rattle.model.specs.Growth.{Entries, fold, covered, subsumed, append, Apart, Reduced}
+use Rattle.model.specs.Growth.{Entries, fold, covered, subsumed, append, Apart, Irredundant}
 use Rattle.model.specs.Tables.{unmatched, pieces-of, take-away, change-side}
 use Rattle.model.specs.Widest.{avoids, EntryOf, AllWidest, edges, fresh, append-all, Antichain, Complement}
 use Rattle.model.proofs.Tests.{or-left}
@@ -71,23 +71,23 @@ complement-from l τ ρ (v ∷ vs) c =
     (λ υ d. subst (λ (x : Entries). Given (Complement l x) (fold take-away υ vs)) (append-assoc τ (v ∷ []) vs)
     (complement-from l (τ ++ (v ∷ [])) υ vs d))
 
--- no entry of a reduced list is all zero
-reduced-nonzero : (τ : Entries) → Reduced τ → (s : Trits) → EntryOf τ s → ¬ (T (all-zero s))
-unfolding Reduced EntryOf
-reduced-nonzero [] h s e = absurd e
-reduced-nonzero (r ∷ τ) h s (inl e) = subst (λ (x : Trits). ¬ (T (all-zero x))) e (h .0)
-reduced-nonzero (r ∷ τ) h s (inr e) = reduced-nonzero τ (h .2) s e
+-- no entry of a list with none redundant is all zero
+entry-nonzero : (τ : Entries) → Irredundant τ → (s : Trits) → EntryOf τ s → ¬ (T (all-zero s))
+unfolding Irredundant EntryOf
+entry-nonzero [] h s e = absurd e
+entry-nonzero (r ∷ τ) h s (inl e) = subst (λ (x : Trits). ¬ (T (all-zero x))) e (h .0)
+entry-nonzero (r ∷ τ) h s (inr e) = entry-nonzero τ (h .2) s e
 
 -- a list with what the change of side keeps, none all zero
-all-widest : (l : ℕ) (τ ρ : Entries) → Complement l τ ρ → Reduced ρ → AllWidest l τ ρ
+all-widest : (l : ℕ) (τ ρ : Entries) → Complement l τ ρ → Irredundant ρ → AllWidest l τ ρ
 all-widest l τ ρ c h = record {
   each = λ s e. record {
     long = wide-entry l ρ (c .wide) s e;
     free = c .free s e;
-    nonzero = reduced-nonzero ρ h s e;
+    nonzero = entry-nonzero ρ h s e;
     widest = λ r a k.
         let n : ¬ (T (all-zero r)) =
-        λ o. reduced-nonzero ρ h s e (subst (λ (x : Trits). T (all-zero x)) (zero-subsumes r s o k) o) in
+        λ o. entry-nonzero ρ h s e (subst (λ (x : Trits). T (all-zero x)) (zero-subsumes r s o k) o) in
         let o = above ρ r (c .whole r (subsumes-length r s k ∙ wide-entry l ρ (c .wide) s e) n a) in
         let same : o .y ≡ s =
         antichain-same ρ (c .apart) (o .y) s (o .entry) e (subsumes-trans (o .y) r s (o .subsuming) k) in
@@ -104,7 +104,7 @@ pub change-side-widest : (l : ℕ) (τ ρ : Entries) → 0 < l → change-side l
 unfolding change-side
 change-side-widest l τ ρ h e =
     all-widest l τ ρ (given-at (complement-from l [] (stars l ∷ []) τ (complement-start l)) ρ e)
-    (given-at (change-side-made l τ) ρ e .shape .reduced h)
+    (given-at (change-side-made l τ) ρ e .shape .reduced h .irredundant)
 
 -- ---- Tables that cover the same strings
 

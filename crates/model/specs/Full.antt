@@ -3,35 +3,16 @@ use mathlib.Core.Path.{_≡_}
 use mathlib.Core.List.{List, [], _∷_, _++_, map}
 use mathlib.Core.Logic.{_⊎_}
 use mathlib.Core.Option.{Option, some, none}
-use Prim.Native.Nat.{ℕ, _≤_}
-use lib.Dec.{T}
-use mathlib.Core.Bool.{_||_}
-use lib.ListN.{length}
-use Rattle.model.specs.Groups.{Bits, nonzero, or, cut}
-use Rattle.model.specs.Strings.{Trits, all-zero, exactly, zeros, ones, stars}
-use Rattle.model.specs.Growth.{fold, Entries, limit, subsumed, remove, grow, grow-all, widen, widen-grow, convert-one}
-use Rattle.model.specs.Growth.{Overflows}
+use Prim.Native.Nat.{ℕ}
+use Rattle.model.specs.Groups.{Bits, or, cut}
+use Rattle.model.specs.Strings.{exactly, zeros, ones, stars}
+use Rattle.model.specs.Growth.{Entries, grow, grow-all, Full, Meets, Overflows}
 use Rattle.model.specs.Tables.{Side, positive, negative, meets-of, ors, unmatched, pieces-of, relevant, irrelevant, cross}
 use Rattle.model.specs.Tables.{close-with, close, take-away, change-side, kept, positive-projection}
 use Rattle.model.specs.Terms.{var, variables}
 use Rattle.model.specs.Equations.{Equation}
 use Rattle.model.specs.Walk.{Walked}
 use Rattle.model.specs.Unification.{next-equation}
-
--- y is to be appended to 256 entries or more.
-abbrev pub Full : Entries → Trits → Type 0
-Full τ y = ¬ (T (all-zero y || subsumed τ y)) × (limit ≤ length (remove y τ))
-
-module _ {S X : Type 0} where
-  -- Some x of xs, in the state that those before it lead to, is one of which F holds.
-  pub record Meets (F : S → X → Type 0) (step : S → X → Option S) (s : S) (xs : List X) : Type 0 where
-    pub before : List X
-    pub x : X
-    pub after : List X
-    pub state : S
-    pub is : xs ≡ before ++ (x ∷ after)
-    pub reached : fold step s before ≡ some state
-    pub full : F state x
 
 -- F holds; or the list is made, and of it G holds.
 abbrev pub OrLater : {A : Type 0} → Type 0 → Option A → (A → Type 0) → Type 0
@@ -41,14 +22,13 @@ OrLater F o G = F ⊎ ((a : _) × (o ≡ some a) × G a)
 abbrev pub CloseFull : Entries → Type 0
 CloseFull = Meets (λ R c. Overflows R (ors R (c ∷ []) ++ (c ∷ []))) close-with []
 
--- Convert: some nonzero string of the row, once it is widened.
+-- Convert: some string of the row.
 abbrev pub ConvertFull : List Bits → Type 0
-ConvertFull = Meets (λ R g. T (nonzero g) × Full R (widen R (exactly g))) convert-one []
+ConvertFull gs = Overflows [] (map exactly gs)
 
--- Change of side: for some entry v, one of the strings formed, once it is widened.
+-- Change of side: for some entry v, one of the strings formed.
 abbrev pub ChangeFull : ℕ → Entries → Type 0
-ChangeFull l =
-    Meets (λ R v. Meets (λ S y. Full S (widen S y)) widen-grow (unmatched v R) (pieces-of v R)) take-away (stars l ∷ [])
+ChangeFull l = Meets (λ R v. Overflows (unmatched v R) (pieces-of v R)) take-away (stars l ∷ [])
 
 -- Equation, positive: the irrelevant entries, the relevant ones of x and of t, their cross, its closure, or the last list.
 unfoldable pub PositiveFull : Bits → Bits → Entries → Type 0

@@ -1,12 +1,13 @@
--- The growth rule (01, "The growth rule and what stands on it"). A procedure gives a list, or nothing where entry 257 is needed.
+-- The growth rule (01, "The growth rule and what stands on it", with request 3 of 02). A procedure gives a list, or nothing
+-- where entry 257 is needed.
 use mathlib.Core.Path.{_≡_}
 use mathlib.Core.Bool.{Bool, false, _&&_, _||_, cond}
-use mathlib.Core.List.{List, [], _∷_, _++_}
+use mathlib.Core.List.{List, [], _∷_, _++_, map}
 use mathlib.Core.Option.{Option, some, none}
 use Prim.Native.Nat.{ℕ, zero, suc, _≤_}
 use lib.Dec.{T, ltb}
 use lib.ListN.{length}
-use Rattle.model.specs.Groups.{Bits, nonzero}
+use Rattle.model.specs.Groups.{Bits}
 use Rattle.model.specs.Strings.{Trits, covers, subsumes, all-zero, exactly, fixed, fixed-count, flipped, starred}
 
 module _ {A B : Type 0} where
@@ -49,36 +50,6 @@ remove y (s ∷ τ) = cond (subsumes y s) (remove y τ) (s ∷ remove y τ)
 unfoldable pub append : Entries → Trits → Option Entries
 append τ y = cond (ltb (length τ) limit) (some (τ ++ (y ∷ []))) none
 
--- Grow a list by y: an all-zero y, or one subsumed by an entry, changes nothing. Else remove all entries that y subsumes
--- and append y. (In the field: insertion with absorption into a list of cubes.)
-unfoldable pub grow : Entries → Trits → Option Entries
-grow τ y = cond (all-zero y || subsumed τ y) (some τ) (append (remove y τ) y)
-
--- Grow by each string in turn.
-unfoldable pub grow-all : Entries → List Trits → Option Entries
-grow-all τ ys = fold grow τ ys
-
--- Neither s nor an entry of the list subsumes the other.
-unfoldable pub Apart : Trits → Entries → Type 0
-Apart s [] = Unit {0}
-Apart s (r ∷ τ) = (¬ (T (subsumes s r)) × ¬ (T (subsumes r s))) × Apart s τ
-
--- No entry that another subsumes, and none all zero.
-unfoldable pub Reduced : Entries → Type 0
-Reduced [] = Unit {0}
-Reduced (s ∷ τ) = ¬ (T (all-zero s)) × Apart s τ × Reduced τ
-
--- Growing τ by ys needs entry 257: after some of ys the next, y, is to be appended to 256 entries or more.
-pub record Overflows (τ : Entries) (ys : List Trits) : Type 0 where
-  pub before : List Trits
-  pub y : Trits
-  pub after : List Trits
-  pub ρ : Entries
-  pub is : ys ≡ before ++ (y ∷ after)
-  pub grown : grow-all τ before ≡ some ρ
-  pub new : ¬ (T (all-zero y || subsumed ρ y))
-  pub full : limit ≤ length (remove y ρ)
-
 -- One position of Widen: while more than one position is fixed, if the position is fixed and y with that value flipped is
 -- subsumed by one entry, the position becomes `*`.
 unfoldable pub widen-at : Entries → ℕ → Trits → Trits
@@ -94,14 +65,62 @@ widen-from τ i (suc n) y = widen-from τ (suc i) n (widen-at τ i y)
 unfoldable pub widen : Entries → Trits → Trits
 widen τ y = widen-from τ 0 (length y) y
 
--- Widen, then grow.
-unfoldable pub widen-grow : Entries → Trits → Option Entries
-widen-grow τ y = grow τ (widen τ y)
+-- Growing by y changes nothing: y is all zero, or an entry subsumes it once it is widened.
+unfoldable pub absorbed : Entries → Trits → Bool
+absorbed τ y = all-zero y || subsumed τ (widen τ y)
 
--- A nonzero string is widened, then grown; a zero string is skipped.
-unfoldable pub convert-one : Entries → Bits → Option Entries
-convert-one τ g = cond (nonzero g) (widen-grow τ (exactly g)) (some τ)
+-- Grow a list by y: an all-zero y changes nothing. Any other is widened; then, if an entry subsumes it, it changes nothing;
+-- else remove all entries that it subsumes and append it. (In the field: insertion of an expanded cube with absorption.)
+unfoldable pub grow : Entries → Trits → Option Entries
+grow τ y = cond (absorbed τ y) (some τ) (append (remove (widen τ y) τ) (widen τ y))
 
--- Convert groups, in the given order, from the empty list.
+-- Grow by each string in turn.
+unfoldable pub grow-all : Entries → List Trits → Option Entries
+grow-all τ ys = fold grow τ ys
+
+-- Growing τ by y needs entry 257: once widened, y is to be appended to 256 entries or more.
+abbrev pub Full : Entries → Trits → Type 0
+Full τ y = ¬ (T (absorbed τ y)) × (limit ≤ length (remove (widen τ y) τ))
+
+module _ {S X : Type 0} where
+  -- Some x of xs, in the state that those before it lead to, is one of which F holds.
+  pub record Meets (F : S → X → Type 0) (step : S → X → Option S) (s : S) (xs : List X) : Type 0 where
+    pub before : List X
+    pub x : X
+    pub after : List X
+    pub state : S
+    pub is : xs ≡ before ++ (x ∷ after)
+    pub reached : fold step s before ≡ some state
+    pub full : F state x
+
+-- Growing τ by ys needs entry 257: growing by some y of ys does, in the list that those before it lead to.
+abbrev pub Overflows : Entries → List Trits → Type 0
+Overflows = Meets Full grow
+
+-- Convert groups, in the given order, from the empty list; growing skips a zero string and widens any other.
 unfoldable pub convert : List Bits → Option Entries
-convert gs = fold convert-one [] gs
+convert gs = grow-all [] (map exactly gs)
+
+-- ---- What a grown list is
+
+-- Neither s nor an entry of the list subsumes the other.
+unfoldable pub Apart : Trits → Entries → Type 0
+Apart s [] = Unit {0}
+Apart s (r ∷ τ) = (¬ (T (subsumes s r)) × ¬ (T (subsumes r s))) × Apart s τ
+
+-- No entry that another subsumes, and none all zero.
+unfoldable pub Irredundant : Entries → Type 0
+Irredundant [] = Unit {0}
+Irredundant (s ∷ τ) = ¬ (T (all-zero s)) × Apart s τ × Irredundant τ
+
+-- Each string of the second list is stable against those of the first and those before it: widening it against them changes
+-- nothing.
+unfoldable pub Stable : Entries → Entries → Type 0
+Stable τ [] = Unit {0}
+Stable τ (y ∷ ys) = (widen τ y ≡ y) × Stable (τ ++ (y ∷ [])) ys
+
+-- A grown list: no entry subsumes another, none is all zero, and each is stable against those before it. It is one that
+-- growing from empty by its own entries gives back (`regrown-exact` of Shape).
+pub record Reduced (τ : Entries) : Type 0 where
+  pub irredundant : Irredundant τ
+  pub stable : Stable [] τ

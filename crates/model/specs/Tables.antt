@@ -8,7 +8,7 @@ use lib.Dec.{T}
 use lib.ListN.{length}
 use Rattle.model.specs.Groups.{Bits, Groups, Group, or, cut}
 use Rattle.model.specs.Strings.{Trits, matches, meet, or-strings, stars, zeros, ones, pieces}
-use Rattle.model.specs.Growth.{_>>=_, fold, Entries, limit, covered, grow, grow-all, widen-grow}
+use Rattle.model.specs.Growth.{_>>=_, fold, Entries, limit, covered, grow, grow-all}
 
 -- A table is positive or negative.
 pub data Side : Type 0 where
@@ -87,9 +87,9 @@ close-with R c = grow-all R (ors R (c ∷ []) ++ (c ∷ []))
 unfoldable pub close : Entries → Option Entries
 close cs = fold close-with [] cs
 
--- One entry v of Change of side: the entries matching v are taken out; their pieces are widened and grown.
+-- One entry v of Change of side: the entries matching v are taken out; the others are grown by the pieces of these.
 unfoldable pub take-away : Entries → Trits → Option Entries
-take-away τ v = fold widen-grow (unmatched v τ) (pieces-of v τ)
+take-away τ v = grow-all (unmatched v τ) (pieces-of v τ)
 
 -- Change of side: start with one all-star entry, and take away each entry of the given table (complement of a cover).
 unfoldable pub change-side : ℕ → Entries → Option Entries

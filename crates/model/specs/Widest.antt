@@ -8,7 +8,7 @@ use Prim.Native.Nat.{ℕ, suc}
 use lib.Dec.{T, ltb}
 use lib.ListN.{length}
 use Rattle.model.specs.Strings.{Trits, matches, match-digit, subsumes, all-zero}
-use Rattle.model.specs.Growth.{Entries, fold, subsumed, append, Apart, Reduced}
+use Rattle.model.specs.Growth.{Entries, fold, subsumed, append, Apart, Irredundant}
 use Rattle.model.specs.Tables.{Wide}
 
 -- s matches no entry of the list.
@@ -33,7 +33,7 @@ pub record Widest (l : ℕ) (τ : Entries) (s : Trits) : Type 0 where
 pub record AllWidest (l : ℕ) (τ ρ : Entries) : Type 0 where
   pub each : (s : Trits) → EntryOf ρ s → Widest l τ s
   pub all : (s : Trits) → Widest l τ s → EntryOf ρ s
-  pub once : Reduced ρ
+  pub once : Irredundant ρ
 
 -- At how many positions one string is 0 and the other 1.
 unfoldable pub opposed-count : Trits → Trits → ℕ

@@ -54,6 +54,11 @@ module _ (s : Trits) (short : length s ≤ 32) where
   pub zeros-half : zeros-of s < 2 ^ 32
   zeros-half = omega (arith, zeros-lt s, pow.pow-mono {i = length s} {j = 32} short)
 
+  -- and both together 64
+  pub word-lt : word s < 2 ^ 64
+  unfolding word
+  word-lt = omega (arith, zeros-half, value-half)
+
   -- the zeros are the high half
   pub high-word : high (word s) ≡ zeros-of s
   unfolding word

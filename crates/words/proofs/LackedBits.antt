@@ -129,19 +129,19 @@ lone-ones k w h = go (eqb (bitAnd w (w - 1)) 0) (ltb (ones w) 2) refl refl
 -- ---- The bits that lack, in each half
 
 -- zeros of the one that are not zeros of the other
-lack-zeros : Digitwise (λ p q r s. bitXor (bitAnd p r) p)
+pub lack-zeros : Digitwise (λ p q r s. bitXor (bitAnd p r) p)
 lack-zeros = xor-of _ _ (and-of _ _ zero-l zero-r) zero-l
 
 -- values of the one that are not values of the other
-lack-values : Digitwise (λ p q r s. bitXor (bitAnd q s) q)
+pub lack-values : Digitwise (λ p q r s. bitXor (bitAnd q s) q)
 lack-values = xor-of _ _ (and-of _ _ value-l value-r) value-l
 
 -- the zeros that lack
-abbrev Z : Trits → Trits → ℕ
+abbrev pub Z : Trits → Trits → ℕ
 Z e y = bitXor (bitAnd (zeros-of e) (zeros-of y)) (zeros-of e)
 
 -- the values that lack
-abbrev O : Trits → Trits → ℕ
+abbrev pub O : Trits → Trits → ℕ
 O e y = bitXor (bitAnd (value-of e) (value-of y)) (value-of e)
 
 -- the count of an operation at one position more
@@ -192,7 +192,7 @@ module _ (e y : Trits) (n : length e ≡ length y) (short : length e ≤ 32) whe
       xor-lt 32 _ _ (and-lt 32 _ _ (value-half e short) (value-half y short-too)) (value-half e short)
 
   -- the word of the bits that lack, by its halves
-  lacks-halves : lacks-word (word e) (word y) ≡ halves (Z e y) (O e y)
+  pub lacks-halves : lacks-word (word e) (word y) ≡ halves (Z e y) (O e y)
   unfolding lacks-word word
   lacks-halves =
       ap (λ (x : ℕ). bitXor x (word e))
@@ -208,6 +208,12 @@ module _ (e y : Trits) (n : length e ≡ length y) (short : length e ≤ 32) whe
   lacks-lt : lacks-word (word e) (word y) < 2 ^ 64
   lacks-lt = rw lacks-halves (omega (arith, zeros-small, values-small))
 
+  -- its fixed positions
+  pub lacks-fixed : fixed-word (lacks-word (word e) (word y)) ≡ bitOr (Z e y) (O e y)
+  unfolding fixed-word
+  lacks-fixed =
+      ap fixed-word lacks-halves ∙ ap₂ bitOr (pow.high (Z e y) 32 values-small) (pow.low (Z e y) 32 values-small)
+
   -- at most one bit lacks exactly where at most one position does
   pub word-near : lone (lacks-word (word e) (word y)) ≡ near e y
   unfolding near
@@ -216,11 +222,11 @@ module _ (e y : Trits) (n : length e ≡ length y) (short : length e ≤ 32) whe
 -- ---- The word of the openings, by the first position and the others
 
 -- the digit of the first position, where b says whether the others are subsumed
-head-digit : Trit → Trit → Bool → ℕ
+unfoldable pub head-digit : Trit → Trit → Bool → ℕ
 head-digit t u b = cond (fixed-digit u && subsumes-digit t (flip u) && b) 1 0
 
 -- it is 0 where they are not
-head-none : (t u : Trit) → head-digit t u false ≡ 0
+pub head-none : (t u : Trit) → head-digit t u false ≡ 0
 unfolding head-digit
 head-none t u = go (fixed-digit u) (subsumes-digit t (flip u))
   where
@@ -230,13 +236,13 @@ head-none t u = go (fixed-digit u) (subsumes-digit t (flip u))
     go false b = refl
 
 -- where the first position does not lack
-openings-kept : (t u : Trit) (e y : Trits) → subsumes-digit t u ≡ true
+pub openings-kept : (t u : Trit) (e y : Trits) → subsumes-digit t u ≡ true
     → set-word (openings (t ∷ e) (u ∷ y)) ≡ set-word (openings e y) * 2 + head-digit t u (subsumes e y)
 unfolding openings set-word head-digit
 openings-kept t u e y k = rw k
 
 -- where it does
-openings-lost : (t u : Trit) (e y : Trits) → subsumes-digit t u ≡ false
+pub openings-lost : (t u : Trit) (e y : Trits) → subsumes-digit t u ≡ false
     → set-word (openings (t ∷ e) (u ∷ y)) ≡ 0 * 2 + head-digit t u (subsumes e y)
 unfolding openings set-word head-digit none
 openings-lost t u e y k = rw (k, none-word (openings e y))
@@ -335,7 +341,7 @@ open-one =
         ∙ sym (openings-lost t u e y q)
 
 -- more than one lack: none is opened
-open-none : (e y : Trits) → length e ≡ length y → 1 < lack-count e y → 0 ≡ set-word (openings e y)
+pub open-none : (e y : Trits) → length e ≡ length y → 1 < lack-count e y → 0 ≡ set-word (openings e y)
 unfolding lack-count
 open-none =
     paired _ (λ z. absurd (omega arith)) (λ t u e y n ih z. step t u e y n ih (subsumes-digit t u) refl z)
@@ -369,11 +375,6 @@ word-openings e y n short = go (eqb w 0) (lone w) refl refl
     cares-y : fixed-word (word y) ≡ bitOr (zeros-of y) (value-of y)
     cares-y = care-word y (short-too e y n short) ∙ sym (cares-or y)
 
-    lacks : fixed-word w ≡ bitOr (Z e y) (O e y)
-    lacks =
-        ap fixed-word (lacks-halves e y n short)
-        ∙ ap₂ bitOr (pow.high (Z e y) 32 (values-small e y n short)) (pow.low (Z e y) 32 (values-small e y n short))
-
     lone-count : lone w ≡ ltb (ones w) 2
     lone-count = lone-ones 64 w (lacks-lt e y n short)
 
@@ -385,7 +386,7 @@ word-openings e y n short = go (eqb w 0) (lone w) refl refl
     go false true p q =
         let few : ones w < 2 = ltb-true (ones w) 2 (sym lone-count ∙ q) in
         let some : ¬ (ones w ≡ 0) = λ z. eqb-false w 0 p (ones-none 64 w (lacks-lt e y n short) z) in
-        rw (lacks, cares-y) (open-one e y n short (omega (arith, count)))
+        rw (lacks-fixed e y n short, cares-y) (open-one e y n short (omega (arith, count)))
     go false false p q =
         let more : 2 ≤ ones w = ltb-false (ones w) 2 (sym lone-count ∙ q) in
         open-none e y n (omega (arith, count))

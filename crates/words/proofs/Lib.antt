@@ -7,3 +7,4 @@ pub mod GatheredBits
 pub mod LackedBits
 pub mod Clashes
 pub mod Clearing
+pub mod Shades

@@ -24,14 +24,14 @@ use Rattle.words.proofs.Codec.{value-stars}
 use Rattle.words.proofs.Halves.{zeros-xor, cares-or, value-half, high-word, low-word, care-word}
 
 -- two times two tests, in another order
-and-swap : (a b c d : Bool) → ((a && b) && (c && d)) ≡ ((a && c) && (b && d))
+pub and-swap : (a b c d : Bool) → ((a && b) && (c && d)) ≡ ((a && c) && (b && d))
 and-swap true true c d = refl
 and-swap true false true d = refl
 and-swap true false false d = refl
 and-swap false b c d = refl
 
 -- both parts of a test that holds
-both-true : (a b : Bool) → (a && b) ≡ true → (a ≡ true) × (b ≡ true)
+pub both-true : (a b : Bool) → (a && b) ≡ true → (a ≡ true) × (b ≡ true)
 both-true true b h = (refl, h)
 both-true false b h = never h
 

@@ -187,6 +187,14 @@ openings-of w e y =
     cond (eqb w 0) (bitXor (fixed-word y) (bitAnd (fixed-word y) (fixed-word e)))
     (cond (lone w) (bitAnd (fixed-word w) (fixed-word y)) 0)
 
+-- Where an entry e near y can open: at the position that y lacks of it, or where y lacks none at those that e leaves open.
+unfoldable pub opens-word : ℕ → ℕ → ℕ
+opens-word e y = cond (eqb (lacks-word e y) 0) (bitXor (fixed-word e) (2 ^ 32 - 1)) (fixed-word (lacks-word e y))
+
+-- What widening y needs of an entry e near y: in the high half the positions that e fixes, in the low where it can open.
+unfoldable pub shade-word : ℕ → ℕ → ℕ
+shade-word e y = halves (fixed-word e) (opens-word e y)
+
 -- The bits of w at the chosen positions among the lowest n, moved together, in rising order.
 unfoldable pub gather : ℕ → ℕ → ℕ → ℕ
 gather zero keep w = 0

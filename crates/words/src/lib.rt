@@ -19,7 +19,7 @@ ghost use Rattle.words.specs.Words.{entry as entry-string, word as word-
 ghost use Rattle.words.specs.Words.{care-of, subsumes-word, matches-word, or-word, zero-word, starless as starless-string};
 ghost use Rattle.words.specs.Words.{both as both-halves, flipped-word, starred-word, opposite-word, opposed-word, lacks-word};
 ghost use Rattle.words.specs.Words.{lone, near as near-string, openings as openings-string, openings-of, gather, cut-word};
-ghost use Rattle.words.specs.Words.{clash-word};
+ghost use Rattle.words.specs.Words.{clash-word, shade-word};
 
 // A half has 32 bits: it is one of so many numbers.
 pub const HALF: u64 = 4294967296;
@@ -244,6 +244,58 @@ pub fn openings(e: u64, y: u64) -> u64
         return fixed(w) & care;
     }
     0
+}
+
+// The positions at which y is fixed and lacks what e has: what e opens of y, where it is near y and does not subsume it.
+pub fn edge(e: u64, y: u64) -> u64
+    ensures strings { λ r. ⌜
+        ((s t : Trits) → length s ≡ length t → length s ≤ 32 → e ≡ word-string s → y ≡ word-string t → near-string s t ≡ true
+        → subsumes-string s t ≡ false → r ≡ set-word (openings-string s t))
+        ⌝ }
+{
+    let w = (e & y) ^ e;
+    fixed(w) & fixed(y)
+}
+
+// What widening y needs of an entry e near y: in the high half the positions that e fixes; in the low half the one that y
+// lacks of them, or where it lacks none those that e leaves open.
+pub fn shade(e: u64, y: u64) -> u64
+    ensures { λ r. ⌜ r ≡ shade-word e y ⌝ }
+{
+    let w = (e & y) ^ e;
+    let fixes = fixed(e);
+    let opens = if w == 0 { fixes ^ LOW } else { fixed(w) };
+    (fixes << 32) | opens
+}
+
+// The openings of z by the entry e that `shade` is of, where z is y with some positions made `*` and e is near y.
+pub fn shade_openings(shade: u64, y: u64, z: u64) -> u64
+    ensures below { λ r. ⌜ r < 2 ^ 32 ⌝ }
+    ensures strings { λ r. ⌜
+        ((e s t : Trits) → length e ≡ length s → length t ≡ length s → length s ≤ 32
+        → shade ≡ shade-word (word-string e) (word-string s) → y ≡ word-string s → z ≡ word-string t
+        → near-string e s ≡ true → subsumes-string t s ≡ true
+        → r ≡ set-word (openings-string e t))
+        ⌝ }
+{
+    let care = fixed(z);
+    if ((shade >> 32) & (fixed(y) ^ care)) == 0 {
+        return (shade % HALF) & care;
+    }
+    0
+}
+
+// Does that entry subsume z?
+pub fn shade_subsumes(shade: u64, y: u64, z: u64) -> bool
+    ensures strings { λ r. ⌜
+        ((e s t : Trits) → length e ≡ length s → length t ≡ length s → length s ≤ 32
+        → shade ≡ shade-word (word-string e) (word-string s) → y ≡ word-string s → z ≡ word-string t
+        → near-string e s ≡ true → subsumes-string t s ≡ true
+        → r ≡ subsumes-string e t)
+        ⌝ }
+{
+    let opened = fixed(y) ^ fixed(z);
+    ((shade >> 32) & (opened | (shade % HALF))) == 0
 }
 
 // The bits of w at the positions of keep, moved together.

@@ -53,6 +53,25 @@ pub fn even_strings(count: usize) -> Vec<u32> {
         .collect()
 }
 
+/// The entries that X1 = X2 joins in a table of pairs.
+pub const JOINED: usize = 63;
+
+/// A table of 16 variables with so many groups that have neither X1 nor X2, X2 alone, and X1 with
+/// each of six pairs of variables: X1 = X2 leaves 63 entries beside the others. All groups have an
+/// odd number of variables, and the joined ones differ by pairs, so that none widens. X15 and X16
+/// are ground.
+pub fn pairs_table(others: usize) -> Table {
+    let odd = (1..1 << 12).filter(|word: &u32| word.count_ones() % 2 == 1);
+    let mut words: Vec<u32> = odd.map(|word| word << 2).take(others).collect();
+    words.push(0b10);
+    words.extend((2..14).step_by(2).map(|i| 1 | 3 << i));
+    let entries = words.iter().map(|&word| Entry::of_group(16, word));
+    Table {
+        l: 16,
+        entries: entries.collect(),
+    }
+}
+
 /// A table of l positions with up to so many entries.
 pub fn some_table(random: &mut Random, l: u32, most: usize) -> Table {
     let count = random.within(0, most);

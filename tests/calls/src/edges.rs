@@ -7,7 +7,7 @@ use crate::tester::Tester;
 use crate::{base, expected};
 use reference::forms::bytes_of;
 use reference::terms::head;
-use reference::{Entry, Table, TwoTerms, ENTRIES};
+use reference::{equations, Entry, Refusal, Table, TwoTerms, ENTRIES};
 use support::tables::{form, form_entries, Size, LONGEST};
 use support::{Checked, Random};
 
@@ -22,10 +22,46 @@ pub fn check(tester: &mut Tester, full: &Full) -> Checked<()> {
         negative_joins(tester, &mut random)?;
         changes_of_side(tester, &mut random)?;
         equations(tester, &mut random)?;
+        crosses(tester, &mut random)?;
         ground_variable(tester, &mut random)?;
     }
     for case in full.cases() {
         shrink(tester, case, &mut random)?;
+    }
+    Ok(())
+}
+
+/// Makes one call, which must be accepted and leave so many entries: else the test is not at its
+/// edge.
+fn leaves(tester: &mut Tester, case: &Case, entries: usize) -> Checked<()> {
+    let outcome = tester.answered(case, 0)?;
+    let left = form_entries(&outcome.out);
+    if left != entries {
+        let name = case.call.name();
+        return Err(format!("{name} leaves {left} entries and not {entries}"));
+    }
+    Ok(())
+}
+
+/// Makes one call, which must leave so many entries, or be refused 8 where they are more than 256.
+fn leaves_or_full(tester: &mut Tester, case: &Case, entries: usize) -> Checked<()> {
+    if entries > ENTRIES {
+        tester.answered(case, 8).map(drop)
+    } else {
+        leaves(tester, case, entries)
+    }
+}
+
+/// A list that is made within a call must have so many entries, or be full where they are more than
+/// 256: else the test is not at its edge.
+fn holds(list: Result<Vec<Entry>, Refusal>, entries: usize) -> Checked<()> {
+    let due = match entries {
+        ..=ENTRIES => Ok(entries),
+        _ => Err(Refusal::Full),
+    };
+    let made = list.map(|list| list.len());
+    if made != due {
+        return Err(format!("a list makes {made:?} and not {due:?}"));
     }
     Ok(())
 }
@@ -40,21 +76,18 @@ fn packings(tester: &mut Tester, random: &mut Random) -> Checked<()> {
     };
     for call in [Call::Pack, Call::Unpack] {
         let case = base::base_on(call, false, Size::Light, &table, random);
-        let outcome = tester.answered(&case, 0)?;
-        if form_entries(&outcome.out) != ENTRIES {
-            return Err(format!("{} drops an entry of 256", call.name()));
-        }
+        leaves(tester, &case, ENTRIES)?;
     }
     Ok(())
 }
 
 fn conversions(tester: &mut Tester, random: &mut Random) -> Checked<()> {
     let l = random.within(10, 16) as u32;
-    for (count, number) in [(255, 0), (256, 0), (257, 8), (258, 8), (511, 8)] {
-        tester.answered(&convert(l, count, random), number)?;
+    for count in [255, 256, 257, 258, 511] {
+        leaves_or_full(tester, &convert(l, count, random), count)?;
     }
     // There are 256 such groups of 9 variables.
-    tester.answered(&convert(9, ENTRIES, random), 0)?;
+    leaves(tester, &convert(9, ENTRIES, random), ENTRIES)?;
     // A list of all words leaves fewer entries than it has words.
     let mut all = Case::new(Call::Convert);
     all.word = l;
@@ -84,30 +117,34 @@ fn long_conversions(tester: &mut Tester, random: &mut Random) -> Checked<()> {
     Ok(())
 }
 
-/// Positive joins: 256 entries and none, one or several more; and one more that subsumes some,
-/// which leaves room for itself.
+/// Positive joins: 256 entries and none, one or several more; and one more that subsumes some or
+/// widens into one that does, which leaves room for itself.
 fn joins(tester: &mut Tester, random: &mut Random) -> Checked<()> {
     let groups = alternate(10, 300, random);
-    for (first, end, number) in [
-        (0, 256, 0),
-        (1, 256, 0),
-        (128, 256, 0),
-        (255, 256, 0),
-        (256, 256, 0),
-        (128, 257, 8),
-        (256, 257, 8),
-        (256, 300, 8),
+    for (first, end) in [
+        (0, 256),
+        (1, 256),
+        (128, 256),
+        (255, 256),
+        (256, 256),
+        (128, 257),
+        (256, 257),
+        (256, 300),
     ] {
-        tester.answered(&join(&groups[..first], &groups[first..end], random), number)?;
+        let case = join(&groups[..first], &groups[first..end], random);
+        leaves_or_full(tester, &case, end)?;
     }
     let mut case = join(&groups[..256], &groups[..0], random);
     let known = Entry::of_group(10, random.pick(&groups[..256]));
-    let wider = known.star(1 << random.below(10));
+    let bit = 1 << random.below(10);
+    let (wider, beside) = (known.star(bit), known.flip(bit));
     let more = Entry::of_group(10, groups[256]);
     for (entries, number) in [
         (vec![known], 0),
         (vec![wider], 0),
+        (vec![beside], 0),
         (vec![wider, wider], 0),
+        (vec![more, beside], 8),
         (vec![more, wider], 8),
         (vec![wider, more, Entry::of_group(10, groups[257])], 8),
     ] {
@@ -119,42 +156,43 @@ fn joins(tester: &mut Tester, random: &mut Random) -> Checked<()> {
 
 /// Negative joins: 16 times 16 entries, and one more pair of entries that match.
 fn negative_joins(tester: &mut Tester, random: &mut Random) -> Checked<()> {
-    let mut case = negative_join(10, 16, 16, random);
-    tester.answered(&case, 0)?;
+    let mut case = negative_join(12, 16, 16, random);
+    leaves(tester, &case, ENTRIES)?;
     let mut first = table_of(&case.first);
-    let low = (1..32).find(|&low| first.entries.iter().all(|entry| entry.value != low));
+    let other = |low: &u32| first.entries.iter().all(|entry| entry.value != *low);
+    let low = alternate(6, 32, random).into_iter().find(other);
     let high = random.pick(&table_of(&case.second).entries).value;
     let value = low.unwrap_or(0) | high;
-    first.entries.push(Entry { care: 0x3ff, value });
+    first.entries.push(Entry { care: 0xfff, value });
     case.first = form(&first);
     tester.answered(&case, 8)?;
-    tester.answered(&negative_join(10, 17, 16, random), 8)?;
-    tester
-        .answered(&negative_join(10, 17, 15, random), 0)
-        .map(drop)
+    leaves_or_full(tester, &negative_join(12, 17, 16, random), 17 * 16)?;
+    leaves_or_full(tester, &negative_join(12, 17, 15, random), 17 * 15)
 }
 
-/// Changes of side: eight entries fixed at two positions each leave 256 choices, four at four
-/// positions too. A projection of the negative table goes by way of them.
+/// Changes of side: entries that are fixed at so many positions each, none at one of another's,
+/// leave the product of these numbers. A projection of the negative table goes by way of them.
 fn changes_of_side(tester: &mut Tester, random: &mut Random) -> Checked<()> {
-    for wide in [2, 4] {
+    for wide in [&[2; 8][..], &[4; 4], &[2, 3, 3, 3, 5], &[3, 3, 3, 3, 4]] {
         let mut places: Vec<u32> = (0..16).collect();
         random.shuffle(&mut places);
         let mut entries = Vec::new();
-        for some in places.chunks(wide) {
-            let care = some.iter().map(|place| 1 << place).sum();
+        for &count in wide {
+            let care = places.drain(..count).map(|place| 1 << place).sum();
             let ones = random.word() & care;
             // Not all zero: then the all-zero string is left and no entry for it.
             let value = if ones == 0 { care } else { ones };
             entries.push(Entry { care, value });
         }
+        let left: usize = wide.iter().product();
         let mut table = Table { l: 16, entries };
         for negative in [false, true] {
             let mut case = base::base_on(Call::ChangeSide, negative, Size::Light, &table, random);
-            tester.answered(&case, 0)?;
+            leaves_or_full(tester, &case, left)?;
             case.call = Call::Project;
             case.word = 0xffff;
-            tester.answered(&case, 0)?;
+            let full = negative && left > ENTRIES;
+            tester.answered(&case, if full { 8 } else { 0 })?;
         }
         table.entries.push(random.string(16, 50));
         for negative in [false, true] {
@@ -172,12 +210,13 @@ fn equations(tester: &mut Tester, random: &mut Random) -> Checked<()> {
     let (relevant, joined) = relevant_entries(l, random);
     let others = alternate(l - 2, ENTRIES, random);
     for (count, number) in [(255, 0), (256, 0), (257, 8), (258, 8)] {
-        let others = others[..count - joined].iter();
-        let mut entries: Vec<Entry> = others.map(|&g| Entry::of_group(l, g << 2)).collect();
-        entries.extend(&relevant);
-        random.shuffle(&mut entries);
+        // The order of the relevant entries stays, on which the joined ones depend.
+        let mut entries = relevant.clone();
+        for &g in &others[..count - joined] {
+            entries.insert(random.below(entries.len() + 1), Entry::of_group(l, g << 2));
+        }
         let case = x1_is_x2(l, entries, random);
-        tester.answered(&case, number)?;
+        leaves_or_full(tester, &case, count)?;
         tester.answered(&step_of(&case, random), number)?;
         tester.answered(&run_of_one(&case), number)?;
         tester.check(&run_of(&case, random))?;
@@ -208,14 +247,38 @@ fn pairs(tester: &mut Tester, equation: &Case, number: u32, random: &mut Random)
     Ok(())
 }
 
+/// Positive equations whose cross makes the product of the counts of the groups with X1 and with X2:
+/// each has an odd number of variables in its own part of X3 to X16, so that none widens. Closing
+/// then makes fewer of the 256 entries.
+fn crosses(tester: &mut Tester, random: &mut Random) -> Checked<()> {
+    let l = 16;
+    for (first, second, number) in [(2, 128, 0), (3, 86, 8)] {
+        let (low, high) = (alternate(6, first, random), alternate(8, second, random));
+        let entry = |g| Entry::of_group(l, g);
+        let low: Vec<Entry> = low.into_iter().map(|g| entry(1 | g << 2)).collect();
+        let high: Vec<Entry> = high.into_iter().map(|g| entry(2 | g << 8)).collect();
+        holds(equations::cross(l, &low, &high), first * second)?;
+        let case = x1_is_x2(l, [low, high].concat(), random);
+        tester.answered(&case, number)?;
+        tester.answered(&step_of(&case, random), number)?;
+    }
+    Ok(())
+}
+
 /// Positive equations on a table where X1 is ground: nothing is joined, and yet the list of the
-/// entries relevant to the term may need entry 257.
+/// entries relevant to the term may need entry 257. An entry that has `*` at X2 and X3 makes two of
+/// that list, one with 0 at X3 makes one.
 fn ground_variable(tester: &mut Tester, random: &mut Random) -> Checked<()> {
     let l = 13;
     let groups = alternate(l - 3, 129, random);
-    for (count, number) in [(128, 0), (129, 8)] {
+    for (open, count, number) in [(127, 128, 0), (128, 128, 0), (128, 129, 8), (129, 129, 8)] {
         let fixed = groups[..count].iter().map(|&g| Entry::of_group(l, g << 3));
-        let entries = fixed.map(|entry| entry.star(2).star(4)).collect();
+        let entry = |(i, entry): (usize, Entry)| match i {
+            i if i < open => entry.star(2).star(4),
+            _ => entry.star(2),
+        };
+        let entries: Vec<Entry> = fixed.enumerate().map(entry).collect();
+        holds(equations::relevant(l, &entries, 0b110), open + count)?;
         let mut case = x1_is_x2(l, entries, random);
         case.second = bytes_of([head(7, 2), 2, 3]);
         tester.answered(&case, number)?;
@@ -224,11 +287,14 @@ fn ground_variable(tester: &mut Tester, random: &mut Random) -> Checked<()> {
     Ok(())
 }
 
-/// Entries with X1 or X2 that make more joined ones than they are themselves, and how many.
+/// Entries with X1 or X2 that make more joined ones than they are themselves, and how many. Each
+/// has an odd number of ones, as the others have, so that reading widens none.
 fn relevant_entries(l: u32, random: &mut Random) -> (Vec<Entry>, usize) {
     loop {
         let fixed = |low: u32, random: &mut Random| {
-            Entry::of_group(l, low | (random.word() & 0xffc & random.word()))
+            let group = low | (random.word() & 0xffc & random.word());
+            let even = u32::from(group.count_ones().is_multiple_of(2));
+            Entry::of_group(l, group ^ even << 2)
         };
         let mut entries: Vec<Entry> = (0..4).map(|_| fixed(1, random)).collect();
         entries.extend((0..4).map(|_| fixed(2, random)));

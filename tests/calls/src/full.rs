@@ -81,7 +81,7 @@ fn candidate(call: Call, negative: bool, random: &mut Random) -> Case {
         }
         (Call::Join, true) => {
             let (first, second) = (random.within(15, 31), random.within(15, 31));
-            negative_join(l, first, second, random)
+            negative_join(l.max(12), first, second, random)
         }
         (Call::Equation, false) => {
             let (n, stars) = (random.within(30, 120), random.pick(&[0, 10, 30]));
@@ -114,7 +114,7 @@ fn on_strings(
 }
 
 /// So many different groups of which each two differ at two positions or more, so that none
-/// widens another; l is at least 9.
+/// widens beside another; there are 256 of 9 variables.
 pub fn alternate(l: u32, count: usize, random: &mut Random) -> Vec<u32> {
     let odd = |group: &u32| group.count_ones() % 2 == 1;
     let mut groups: Vec<u32> = (1..=low_bits(l)).filter(odd).collect();
@@ -155,24 +155,22 @@ pub fn join(first: &[u32], second: &[u32], random: &mut Random) -> Case {
     case
 }
 
-/// A negative join of tables of up to 31 entries each, which makes the product of the counts:
-/// the first is fixed at the low 5 positions, the second at all others.
+/// A negative join of tables of up to 32 entries each, which makes the product of the counts: the
+/// first is fixed at the low 6 positions, the second at all others, with ones at the next 6
+/// only. No two meets differ at one position alone, so that none widens. l is at least 12.
 pub fn negative_join(l: u32, first: usize, second: usize, random: &mut Random) -> Case {
     let row = |count: usize, care: u32, shift: u32, random: &mut Random| {
-        let mut values: Vec<u32> = (1..32).collect();
-        random.shuffle(&mut values);
-        values.truncate(count);
         let entry = |value| Entry {
             care,
             value: value << shift,
         };
-        let entries = values.into_iter().map(entry).collect();
+        let entries = alternate(6, count, random).into_iter().map(entry).collect();
         form(&Table { l, entries })
     };
     let mut case = Case::new(Call::Join);
     case.side = random.side(true);
-    case.first = row(first, 31, 0, random);
-    case.second = row(second, low_bits(l) & !31, 5, random);
+    case.first = row(first, 63, 0, random);
+    case.second = row(second, low_bits(l) & !63, 6, random);
     case.out = random.bytes(LONGEST);
     case
 }

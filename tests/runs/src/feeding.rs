@@ -97,9 +97,9 @@ fn check_longest(tester: &mut Tester) -> Checked<()> {
 }
 
 /// The input of the longest text and the text: 256 groups of which none has X16, then 64 times the
-/// equation X16 = a, which changes nothing.
+/// equation X16 = a, which changes nothing. Each has an odd number of X1 to X9, so that none widens.
 fn longest() -> (Vec<u8>, String) {
-    let groups = 1..=256;
+    let groups = (1..512).filter(|group: &u32| group.count_ones() % 2 == 1);
     let entries = groups.clone().map(|group| Entry::of_group(16, group));
     let table = Table {
         l: 16,

@@ -1,4 +1,4 @@
--- Loop (`SoFar`): the list is grown by the strings before j and absorbs all that the filter holds, which may be skipped.
+-- Loop (`SoFar`): the list is grown by the strings before j, and absorbs what stands in slots of its version (`skip-seen`).
 use mathlib.Core.Path.{_≡_, refl, sym, _∙_}
 use mathlib.Core.List.{[]}
 use mathlib.Core.Option.{none}
@@ -9,8 +9,8 @@ use Rattle.model.specs.Growth.{Entries, grow, grow-all}
 use Rattle.lists.specs.WorkingLists.{Holds, stops}
 use Rattle.lists.specs.Filters.{Filters}
 use Rattle.lists.proofs.Holding.{holds-length, makes-full, within-count}
-use Rattle.lists.proofs.SoFar.{SoFar, so-far-start, so-far-stop, so-far-end, so-far-known}
-use Rattle.lists.proofs.Absorption.{skip-seen, grow-filter}
+use Rattle.lists.proofs.SoFar.{SoFar, so-far-start, so-far-step, so-far-stop, so-far-end, so-far-known}
+use Rattle.lists.proofs.Absorption.{skip-seen}
 use borrow.Author.Needs.{needs}
 use Rattle.lists.proofs.filter.grow_unseen.Statement.{statement}
 use Rattle.lists.proofs.filter.grow_unseen.Tie as tie
@@ -33,14 +33,14 @@ loop-holds c =
     let u = c .unseen .ensures in
     (u .1, omega arith, λ τ ρ h y f. skip-seen y (so-far-start h refl f) _ (u .0) (u .1) (u .2))
 
-mul-y : tie.Need-mul-y Inv-loop μ-loop
-mul-y c = search needs
+mul-grow-noted : tie.Need-mul-grow-noted Inv-loop μ-loop
+mul-grow-noted c = search needs
 
-element-copy-out-y : tie.Need-element-copy-out-y Inv-loop μ-loop
-element-copy-out-y c = search needs
+element-copy-out-grow-noted : tie.Need-element-copy-out-grow-noted Inv-loop μ-loop
+element-copy-out-grow-noted c = search needs
 
-grow-requires : tie.Need-grow-requires Inv-loop μ-loop
-grow-requires c κs = search needs
+grow-noted-requires : tie.Need-grow-noted-requires Inv-loop μ-loop
+grow-noted-requires c κs = search needs
 
 enum-known-c : tie.Need-enum-known-c Inv-loop μ-loop
 enum-known-c c = search needs
@@ -48,18 +48,20 @@ enum-known-c c = search needs
 enum-told : tie.Need-enum-told Inv-loop μ-loop
 enum-told c = search needs
 
+-- the loop as it came to the growth
+abbrev come : tie.After-grow-noted Inv-loop μ-loop → tie.At-loop Inv-loop μ-loop
+come c = c .before .before .before .before .before
+
 -- what a full list says of the whole
 full : (c : tie.After-enum-told Inv-loop μ-loop) (τ ρ : Entries)
-    → (let at-grow = c .before .before in
-    let at-loop = at-grow .before .before .before .before in
-    let a = at-loop .before .before .before .args in
+    → (let a = come (c .before .before) .before .before .before .args in
     Holds (a .l) (a .list .now) (a .n) τ → Holds (a .l) (a .row .now) (a .m) ρ → Filters (a .l) (a .seen .now) τ
     → grow-all τ ρ ≡ none)
 full c τ ρ h y f =
     let at-grow = c .before .before in
-    let lp = at-grow .before .before .before .before .loop in
+    let lp = come at-grow .loop in
     let w = lp .inv .2 τ ρ h y f in
-    let made = at-grow .grow .ensures .1 _ (getD ρ (lp .j) []) (w .held) (holds-length y (lp .j) (omega arith))
+    let made = at-grow .grow-noted .ensures .1 .0 _ (getD ρ (lp .j) []) (w .held) (holds-length y (lp .j) (omega arith))
     (y .here (lp .j) (omega arith)) in
     makes-full (so-far-stop w [] (omega (arith, y .count)) made {l′ = 0} {list″ = []} (c .enum-told .given .1)) refl
 
@@ -72,15 +74,6 @@ returns c = (
   ),
 )
 
-slot-requires : tie.Need-slot-requires Inv-loop μ-loop
-slot-requires c κs = search needs
-
-mul-seen : tie.Need-mul-seen Inv-loop μ-loop
-mul-seen c = search needs
-
-element-write-seen : tie.Need-element-write-seen Inv-loop μ-loop
-element-write-seen c = search needs
-
 add-unseen : tie.Need-add-unseen Inv-loop μ-loop
 add-unseen c = search needs
 
@@ -92,18 +85,21 @@ loop-less c = search needs
 
 loop-again : tie.Need-loop-again Inv-loop μ-loop
 loop-again c =
-    let at-slot = c .before .before in
-    let at-grow = at-slot .before .before .before .before in
-    let lp = at-grow .before .before .before .before .loop in
-    let is = at-slot .before .before .c .given .1 in
+    let at-c = c .before .before .before in
+    let at-grow = at-c .before .before in
+    let lp = come at-grow .loop in
+    let g = at-grow .grow-noted .ensures in
+    let is = at-c .c .given .1 in
     let u = c .unseen2 .ensures in (
       u .1,
-      within-count (at-grow .grow .ensures .0) is,
+      within-count (g .0) is,
       λ τ ρ h y f.
           let w = lp .inv .2 τ ρ h y f in
-          let made = at-grow .grow .ensures .1 _ (getD ρ (lp .j) []) (w .held) (holds-length y (lp .j) (omega arith))
-          (y .here (lp .j) (omega arith)) in
-          skip-seen y (grow-filter y (omega arith) w made is (at-slot .slot .ensures)) _ (u .0) (u .1) (u .2),
+          let long = holds-length y (lp .j) (omega arith) in
+          let here = y .here (lp .j) (omega arith) in
+          let next = so-far-step w [] (omega (arith, y .count)) (g .1 .0 _ _ (w .held) long here) is
+          (λ κ e. g .1 .1 _ _ (w .held) long here κ (w .known) e) in
+          skip-seen y next _ (u .0) (u .1) (u .2),
     )
 
 returns-2 : tie.Need-returns-2 Inv-loop μ-loop
@@ -120,5 +116,5 @@ pub grow-unseen-spec : {M : Type 1} → statement M
 grow-unseen-spec =
     tie.close
     (tie.spec
-    Inv-loop μ-loop unseen-requires loop-holds mul-y element-copy-out-y grow-requires enum-known-c enum-told returns
-    slot-requires mul-seen element-write-seen add-unseen unseen-requires-2 loop-less loop-again returns-2)
+    Inv-loop μ-loop unseen-requires loop-holds mul-grow-noted element-copy-out-grow-noted grow-noted-requires enum-known-c
+    enum-told returns add-unseen unseen-requires-2 loop-less loop-again returns-2)

@@ -1,15 +1,16 @@
--- The three cases of the growth rule: `grow-zero`, `grow-subsumed`, `grow-new`.
-use mathlib.Core.Path.{_≡_, sym, _∙_}
-use mathlib.Core.Bool.{false}
+-- A string that the list absorbs changes nothing (`grow-absorbed`); any other is widened and inserted (`grow-new`).
+use mathlib.Core.Path.{sym, ap, _∙_}
 use native.Mathlib.Omega.{arith}
-use lib.ListN.{length}
-use Rattle.model.specs.Strings.{Trits, all-zero}
-use Rattle.words.specs.Words.{word}
-use Rattle.lists.specs.WorkingLists.{makes}
-use Rattle.lists.proofs.Growing.{grow-zero, grow-subsumed, grow-new}
 use borrow.Author.Needs.{needs}
+use Rattle.model.proofs.Growth.{grow-absorbed}
+use Rattle.model.proofs.Stability.{widen-length}
+use Rattle.lists.specs.WorkingLists.{makes}
+use Rattle.lists.proofs.Growing.{grow-new, new-unsubsumed, fresh-new, fresh-test}
 use Rattle.lists.proofs.growth.grow.Statement.{statement}
 use Rattle.lists.proofs.growth.grow.Tie as tie
+
+fresh-requires : tie.Need-fresh-requires
+fresh-requires c κs = search needs
 
 is-zero-requires : tie.Need-is-zero-requires
 is-zero-requires c κs = search needs
@@ -17,40 +18,27 @@ is-zero-requires c κs = search needs
 returns : tie.Need-returns
 returns c = (
   omega arith,
-  λ τ s h e y. rw (grow-zero τ s (sym (c .before .is-zero .ensures .1 s e y) ∙ c .if1 .taken)) (makes h),
-)
-
--- the string is not all zero where the test of its word fails
-nonzero : (c : tie.Else1) (s : Trits) → length s ≡ c .before .before .args .l → c .before .before .args .y ≡ word s
-    → all-zero s ≡ false
-nonzero c s e y = sym (c .before .is-zero .ensures .1 s e y) ∙ c .if1 .left
-
-subsumed-requires : tie.Need-subsumed-requires
-subsumed-requires c κs = search needs
-
-returns-2 : tie.Need-returns-2
-returns-2 c = (
-  omega arith,
   λ τ s h e y.
-      let at-subsumed = c .before in
-      rw (grow-subsumed τ s (nonzero (at-subsumed .before .before) s e y)
-      (sym (at-subsumed .subsumed .ensures .1 _ τ s h e y) ∙ c .if2 .taken)) (makes h),
+      let at-is-zero = c .before in
+      let f = at-is-zero .before .fresh .ensures τ s h e y in
+      let t = fresh-test _ τ s e (h .short) (f .1) (at-is-zero .is-zero .ensures .0) in
+      rw (grow-absorbed τ s (rw (sym t ∙ c .if1 .taken) tt)) (makes (f .0)),
 )
 
 insert-requires : tie.Need-insert-requires
 insert-requires c κs = search needs
 
-returns-3 : tie.Need-returns-3
-returns-3 c =
-    let left = c .before .before in (
-      c .insert .ensures .0,
-      λ τ s h e y.
-          let none = sym (left .before .subsumed .ensures .1 _ τ s h e y) ∙ left .if2 .left in
-          rw (grow-new τ s (nonzero (left .before .before .before) s e y) none) (c .insert .ensures .1 τ s h e y none),
-    )
+returns-2 : tie.Need-returns-2
+returns-2 c = (
+  c .insert .ensures .0,
+  λ τ s h e y.
+      let left = c .before .before in
+      let at-is-zero = left .before in
+      let f = at-is-zero .before .fresh .ensures τ s h e y in
+      let t = sym (fresh-test _ τ s e (h .short) (f .1) (at-is-zero .is-zero .ensures .0)) ∙ left .if1 .left in
+      rw (grow-new τ s t)
+      (c .insert .ensures .1 τ _ (f .0) (widen-length τ s ∙ e) (f .1 ∙ fresh-new _ τ s t) (new-unsubsumed τ s t)),
+)
 
 pub grow-spec : {M : Type 1} → statement M
-grow-spec =
-    tie.close
-    (tie.spec
-    is-zero-requires returns subsumed-requires returns-2 insert-requires returns-3)
+grow-spec = tie.close (tie.spec fresh-requires is-zero-requires returns insert-requires returns-2)

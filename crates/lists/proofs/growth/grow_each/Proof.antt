@@ -1,56 +1,34 @@
--- Loop (`SoFar`): the list is grown by the strings before j and absorbs `absorbed`; what this subsumes may be skipped.
-use mathlib.Core.Path.{refl, sym, _∙_}
+-- Loop (`SoFar`): the list is grown by the strings before j, and to go on with the others gives the whole.
+use mathlib.Core.Path.{refl}
 use mathlib.Core.List.{[]}
 use Prim.Native.Nat.{_-_, _≤_}
 use native.Mathlib.Omega.{arith}
-use borrow.Author.Tests.{not-false}
-use lib.Dec.{ltb}
+use borrow.Author.Needs.{needs}
 use lib.ListN.{getD}
 use Rattle.model.specs.Growth.{Entries, grow, grow-all}
 use Rattle.lists.specs.WorkingLists.{Holds}
-use Rattle.lists.specs.Filters.{Absorbed}
 use Rattle.lists.proofs.Holding.{holds-length, within-count}
-use Rattle.lists.proofs.Absorption.{absorbed-zero, skip-absorbed, grow-absorbed}
-use Rattle.lists.proofs.SoFar.{SoFar, so-far-start, so-far-stop, so-far-end}
-use borrow.Author.Needs.{needs}
+use Rattle.lists.proofs.SoFar.{SoFar, Any, so-far-start, so-far-step, so-far-stop, so-far-end}
 use Rattle.lists.proofs.growth.grow_each.Statement.{statement}
 use Rattle.lists.proofs.growth.grow_each.Tie as tie
 
 abbrev Inv-loop : tie.InvT-loop
-Inv-loop list₀ n l row m absorbed₀ k₀ j₀ list absorbed k j =
+Inv-loop list₀ n l row m k₀ j₀ list k j =
     (j ≤ m) × (k ≤ 256)
-    × ((τ ρ : Entries) → Holds l list₀ n τ → Holds l row m ρ
-    → SoFar l grow ρ (grow-all τ ρ) (Absorbed l absorbed) list k j)
+    × ((τ ρ : Entries) → Holds l list₀ n τ → Holds l row m ρ → SoFar l grow ρ (grow-all τ ρ) Any list k j)
 
 abbrev μ-loop : tie.MeasureT-loop
-μ-loop list₀ n l row m absorbed₀ k₀ j₀ list absorbed k j = m - j
-
-zero-requires : tie.Need-zero-requires Inv-loop μ-loop
-zero-requires c κs = search needs
+μ-loop list₀ n l row m k₀ j₀ list k j = m - j
 
 loop-holds : tie.Need-loop-holds Inv-loop μ-loop
 unfolding grow-all
-loop-holds c = (
-  omega arith,
-  omega arith,
-  λ τ ρ h y. so-far-start h refl (absorbed-zero τ (h .short) (c .zero .ensures .0)),
-)
+loop-holds c = (omega arith, omega arith, λ τ ρ h y. so-far-start h refl tt)
 
-mul-y : tie.Need-mul-y Inv-loop μ-loop
-mul-y c = search needs
+mul-grow : tie.Need-mul-grow Inv-loop μ-loop
+mul-grow c = search needs
 
-element-copy-out-y : tie.Need-element-copy-out-y Inv-loop μ-loop
-element-copy-out-y c = search needs
-
-add-j : tie.Need-add-j Inv-loop μ-loop
-add-j c = search needs
-
-subsumes-requires : tie.Need-subsumes-requires Inv-loop μ-loop
-subsumes-requires c κs = search needs
-
--- the loop as it came to the growth
-abbrev come : tie.After-grow Inv-loop μ-loop → tie.At-loop Inv-loop μ-loop
-come c = let at-y = c .before .before .before .before in at-y .before .before
+element-copy-out-grow : tie.Need-element-copy-out-grow Inv-loop μ-loop
+element-copy-out-grow c = search needs
 
 grow-requires : tie.Need-grow-requires Inv-loop μ-loop
 grow-requires c κs = search needs
@@ -66,47 +44,31 @@ returns c = (
   tt,
   λ τ ρ h y.
       let at-grow = c .before .before in
-      let lp = come at-grow .loop in
+      let lp = at-grow .before .before .before .before .loop in
       let w = lp .inv .2 τ ρ h y in
       let made = at-grow .grow .ensures .1 _ (getD ρ (lp .j) []) (w .held) (holds-length y (lp .j) (omega arith))
       (y .here (lp .j) (omega arith)) in
       so-far-stop w [] (omega (arith, y .count)) made (c .enum-told .given .1),
 )
 
-lesser-requires : tie.Need-lesser-requires Inv-loop μ-loop
-lesser-requires c κs = search needs
+add-j : tie.Need-add-j Inv-loop μ-loop
+add-j c = search needs
 
 loop-less : tie.Need-loop-less Inv-loop μ-loop
 loop-less c = search needs
 
 loop-again : tie.Need-loop-again Inv-loop μ-loop
 loop-again c =
-    let at-c = c .before .before in
-    let at-grow = at-c .before .before in
-    let lp = come at-grow .loop in
-    let row = come at-grow .before .before .args .row .now in
-    let is = at-c .c .given .1 in (
+    let at-grow = c .before .before .before in
+    let lp = at-grow .before .before .before .before .loop in
+    let is = c .before .c .given .1 in (
       omega arith,
       within-count (at-grow .grow .ensures .0) is,
       λ τ ρ h y.
           let w = lp .inv .2 τ ρ h y in
           let made = at-grow .grow .ensures .1 _ (getD ρ (lp .j) []) (w .held) (holds-length y (lp .j) (omega arith))
           (y .here (lp .j) (omega arith)) in
-          rw (c .lesser .ensures) (grow-absorbed y (omega arith) w made is (ltb (getD row (lp .j) 0) (lp .absorbed))),
-    )
-
-loop-less-2 : tie.Need-loop-less-2 Inv-loop μ-loop
-loop-less-2 c = search needs
-
-loop-again-2 : tie.Need-loop-again-2 Inv-loop μ-loop
-loop-again-2 c =
-    let at-subsumes = c .before in
-    let lp = at-subsumes .before .before .before .loop in (
-      omega arith,
-      lp .inv .1,
-      λ τ ρ h y.
-          skip-absorbed y (omega arith) (lp .inv .2 τ ρ h y)
-          (sym (at-subsumes .subsumes .ensures .0) ∙ not-false _ (c .if1 .left)),
+          so-far-step w [] (omega (arith, y .count)) made is (λ κ g. tt),
     )
 
 returns-2 : tie.Need-returns-2 Inv-loop μ-loop
@@ -118,5 +80,5 @@ pub grow-each-spec : {M : Type 1} → statement M
 grow-each-spec =
     tie.close
     (tie.spec
-    Inv-loop μ-loop zero-requires loop-holds mul-y element-copy-out-y add-j subsumes-requires grow-requires enum-known-c
-    enum-told returns lesser-requires loop-less loop-again loop-less-2 loop-again-2 returns-2)
+    Inv-loop μ-loop loop-holds mul-grow element-copy-out-grow grow-requires enum-known-c enum-told returns add-j loop-less
+    loop-again returns-2)

@@ -1,0 +1,69 @@
+-- Loop: `found` has the positions that the entries before i open (`open-turn`, `open-end`).
+use mathlib.Core.Path.{_≡_, refl, sym, _∙_}
+use mathlib.Core.List.{[]}
+use Prim.Native.Nat.{_-_, _≤_}
+use native.Mathlib.Omega.{arith}
+use borrow.Author.Needs.{needs}
+use lib.ListN.{getD, take}
+use Rattle.model.specs.Strings.{Trits}
+use Rattle.model.specs.Growth.{Entries}
+use Rattle.words.specs.Words.{set-word}
+use Rattle.lists.specs.Widening.{near-list, open-set, Shaded, OfWidened}
+use Rattle.lists.proofs.NearEntries.{near-each}
+use Rattle.lists.proofs.WideningByPasses.{open-turn, open-end}
+use Rattle.lists.proofs.widening.shade_set.Statement.{statement}
+use Rattle.lists.proofs.widening.shade_set.Tie as tie
+
+abbrev Inv-loop : tie.InvT-loop
+Inv-loop list k y z found₀ i₀ found i =
+    (i ≤ k)
+    × ((τ : Entries) (s t : Trits) → Shaded s list k (near-list τ s)
+    → OfWidened y z τ s t (found ≡ set-word (open-set (take i (near-list τ s)) t)))
+
+abbrev μ-loop : tie.MeasureT-loop
+μ-loop list k y z found₀ i₀ found i = k - i
+
+loop-holds : tie.Need-loop-holds Inv-loop μ-loop
+unfolding set-word open-set
+loop-holds c = (omega arith, λ τ s t g y z wide short long over. refl)
+
+add-shade-openings : tie.Need-add-shade-openings Inv-loop μ-loop
+add-shade-openings c = search needs
+
+mul-shade-openings : tie.Need-mul-shade-openings Inv-loop μ-loop
+mul-shade-openings c = search needs
+
+element-copy-out-shade-openings : tie.Need-element-copy-out-shade-openings Inv-loop μ-loop
+element-copy-out-shade-openings c = search needs
+
+shade-openings-requires : tie.Need-shade-openings-requires Inv-loop μ-loop
+shade-openings-requires c κs = search needs
+
+add-i : tie.Need-add-i Inv-loop μ-loop
+add-i c = search needs
+
+loop-less : tie.Need-loop-less Inv-loop μ-loop
+loop-less c = search needs
+
+loop-again : tie.Need-loop-again Inv-loop μ-loop
+loop-again c =
+    let w = c .before .before .before .loop in (
+      omega arith,
+      λ τ s t g y z wide short long over.
+          let at = near-each _ τ s wide (w .i) (omega (arith, g .count)) in
+          open-turn (near-list τ s) t (w .found) (w .i) (omega (arith, g .count))
+          (w .inv .1 τ s t g y z wide short long over) _
+          (c .shade-openings .ensures .1 (getD (near-list τ s) (w .i) []) s t (at .0) long short (g .here (w .i) (omega arith)) y z
+          (at .1) over),
+    )
+
+returns : tie.Need-returns Inv-loop μ-loop
+returns c = λ τ s t g y z wide short long over.
+    let w = c .before .loop in
+    open-end (near-list τ s) t (w .found) (w .i) (omega (arith, g .count)) (w .inv .1 τ s t g y z wide short long over)
+
+pub shade-set-spec : {M : Type 1} → statement M
+shade-set-spec =
+    tie.close
+    (tie.spec
+    Inv-loop μ-loop loop-holds add-shade-openings mul-shade-openings element-copy-out-shade-openings shade-openings-requires add-i loop-less loop-again returns)

@@ -1,0 +1,6 @@
+pub mod Weights
+pub mod Example
+pub mod NegativeExample
+pub mod RunExample
+pub mod RunningExample
+pub mod GoalsExample
