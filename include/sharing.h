@@ -14,9 +14,12 @@
  *   16-bit numbers, low byte first: l, n, then n care words, then n value words; 4 + 4n bytes. Bit
  *   i - 1 of a word is for position i. Care is 1 where the position is fixed, value is the digit
  *   there, and value is 0 where care is 0. The form does not say its side: the caller does.
- *   Reading drops an entry that is all zero or covered by another one (of equal ones the first
- *   stays); the groups are the same. What a call wrote reads back as it stands, unless the caller
- *   changed the table in a sharing_running by hand.
+ *   Reading grows the table entry by entry, as every call grows its lists: an all-zero entry is
+ *   dropped; any other is widened (a fixed position becomes a star where one entry covers all that
+ *   the entry with that digit flipped covers, while more than one position is fixed), then dropped
+ *   if one entry covers all of it, else appended in place of those that it covers. The groups are
+ *   the same; the entries and their order may not be. What a call wrote reads back as it stands,
+ *   unless the caller changed the table in a sharing_running by hand.
  *   A length that is given with a table is that of the form, 4 + 4n, not that of the buffer it
  *   stands in: more bytes than the sizes give are refused 1, as fewer are. The length of what a
  *   call wrote follows from its n (sharing_front_length in sharing_util.h). Only sharing_smaller
@@ -34,8 +37,8 @@
  *   l/5 bytes, rounded up, with nothing between; 4 + n * ((l + 4) / 5) bytes. A byte is the sum of
  *   its digits times 1, 3, 9, 27 and 81, lowest position first; a digit is 0, 1, or 2 for a star.
  *   The last byte of a row may have digits that no position uses: they are 0. This form does not
- *   say its side either. Only sharing_pack writes it and only sharing_unpack reads it, which drops
- *   entries as above. The length of what was written follows from its l and n
+ *   say its side either. Only sharing_pack writes it and only sharing_unpack reads it, which grows
+ *   the entries as above. The length of what was written follows from its l and n
  *   (sharing_packed_front in sharing_util.h).
  *
  *   PACKED FORM below stands for these refusals, in this order:
@@ -124,7 +127,7 @@
 
 /* The version, which stands here and nowhere else, as numbers and as text. */
 #define SHARING_VERSION_MAJOR 0
-#define SHARING_VERSION_MINOR 3
+#define SHARING_VERSION_MINOR 4
 #define SHARING_VERSION_PATCH 0
 #define SHARING_VERSION                                                                            \
     SHARING_QUOTED(SHARING_VERSION_MAJOR)                                                          \
@@ -198,7 +201,7 @@ typedef struct {
 } sharing_part;
 
 /*
- * Reads a form and writes it again, without the entries that reading drops.
+ * Reads a form and writes it again, with the entries that reading leaves.
  * Reads table. Writes the form to out.
  * Refusals in order: TABLE FORM; 9.
  * After a refusal: out is as it was.
@@ -217,7 +220,7 @@ uint32_t sharing_pack(const uint8_t *table, size_t table_len, uint8_t *out, size
 
 /*
  * Unpacks a table. What sharing_pack wrote gives what sharing_read writes of the table packed.
- * Reads packed, a packed form. Writes the form, without the entries that reading drops, to out.
+ * Reads packed, a packed form. Writes the form, with the entries that reading leaves, to out.
  * Refusals in order: PACKED FORM; 9.
  * After a refusal: out is as it was.
  */
