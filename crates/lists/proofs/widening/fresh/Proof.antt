@@ -22,8 +22,7 @@ widened-requires c κs = search needs
 
 returns-2 : tie.Need-returns-2
 returns-2 c = λ τ s h e y.
-    let left = c .before .before .before in
-    (
+    let left = c .before .before .before in (
       h,
       c .widened .ensures τ s (record { held = h; shades = λ few. absurd (omega arith); long = e }) y
           (sym (left .before .is-zero .ensures .1 s e y) ∙ left .if1 .left),
