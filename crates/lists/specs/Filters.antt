@@ -1,52 +1,79 @@
--- A filter: strings by which growing a list changes nothing, each as of a version of the list.
+-- A filter: strings by which growing a list changed nothing, each as of a version of the list. Such a string still changes
+-- nothing unless a string appended since then stirs it.
 use mathlib.Core.Path.{_≡_}
-use mathlib.Core.List.{List}
+use mathlib.Core.List.{List, [], _++_}
+use mathlib.Core.Logic.{_⊎_}
 use Prim.Native.Nat.{ℕ, _+_, _≤_, _<_}
 use lib.Dec.{T}
 use lib.ListN.{length, getD}
-use Rattle.model.specs.Strings.{Trits}
-use Rattle.model.specs.Growth.{Entries, absorbed}
-use Rattle.words.specs.Words.{word}
+use Rattle.model.specs.Strings.{Trits, subsumes, all-zero}
+use Rattle.model.specs.Growth.{Entries, subsumed, widen, stirs}
+use Rattle.model.specs.Widest.{EntryOf}
+use Rattle.words.specs.Words.{word, care-of, high, low}
 
--- The word is that of a string of l positions that τ absorbs: growing τ by it changes nothing.
-pub record Absorbed (l : ℕ) (w : ℕ) (τ : Entries) : Type 0 where
+-- Growing τ by s changes nothing: s is all zero, or it is widened to z and an entry subsumes that.
+abbrev pub Idle : Entries → Trits → Trits → Type 0
+Idle τ s z = T (all-zero s) ⊎ ((widen τ s ≡ z) × T (subsumed τ z))
+
+-- No string of ν stirs s, which was widened to z.
+abbrev pub Quiet : Entries → Trits → Trits → Type 0
+Quiet ν s z = (e : Trits) → EntryOf ν e → ¬ (T (stirs e s z))
+
+-- None of the entries from index j up to n stirs s, which was widened to z.
+abbrev pub QuietFrom : Entries → (s z : Trits) → (j n : ℕ) → Type 0
+QuietFrom τ s z j n = (i : ℕ) → j ≤ i → i < n → ¬ (T (stirs (getD τ i []) s z))
+
+-- What a slot says of its string s, for a list τ of version v: the high half of the word a has the positions that stay fixed
+-- where s is widened, the low half the slot's version. The entries of τ appended since then are its last ones, and no more
+-- than the versions since; where none of them stirs s, growing τ by s changes nothing.
+pub record Noted (a v : ℕ) (τ : Entries) (s : Trits) : Type 0 where
+  pub widened : Trits
+  pub kept : high a ≡ care-of widened
+  pub over : T (subsumes widened s)
+  pub before : Entries
+  pub since : Entries
+  pub split : τ ≡ before ++ since
+  pub few : low a + length since ≤ v
+  pub still : Quiet since s widened → Idle τ s widened
+
+-- The word w of a slot is that of a string of l positions.
+pub record Slot (l w a v : ℕ) (τ : Entries) : Type 0 where
   pub string : Trits
   pub long : length string ≡ l
   pub is : w ≡ word string
-  pub stays : T (absorbed τ string)
+  pub noted : Noted a v τ string
 
--- A filter has 1024 slots, each a string and its version, and after these the version of the list.
+-- A filter has 512 slots, each a string and what is noted of it, and after these the version of the list.
 abbrev pub slots : ℕ
-slots = 1024
+slots = 512
 
 -- So many words.
 abbrev pub filter-size : ℕ
-filter-size = 2049
+filter-size = 1025
 
 -- The string of a slot.
 abbrev pub string-at : List ℕ → ℕ → ℕ
 string-at seen i = getD seen i 0
 
--- The version of a slot.
-abbrev pub version-at : List ℕ → ℕ → ℕ
-version-at seen i = getD seen (slots + i) 0
+-- What a slot has noted of its string.
+abbrev pub note-at : List ℕ → ℕ → ℕ
+note-at seen i = getD seen (slots + i) 0
 
--- The version of the list stands after those of the slots.
+-- The version of the list stands after the slots.
 abbrev pub version-index : ℕ
-version-index = 2048
+version-index = 1024
 
--- The version of the list.
+-- The version of the list, in the low half of its word.
 abbrev pub version : List ℕ → ℕ
-version seen = getD seen version-index 0
+version seen = low (getD seen version-index 0)
 
--- No slot is of a version to come, and τ absorbs the string of each slot that is of the list's version.
+-- What each slot says holds of τ.
 pub record Filters (l : ℕ) (seen : List ℕ) (τ : Entries) : Type 0 where
   pub room : length seen ≡ filter-size
-  pub past : (i : ℕ) → i < slots → version-at seen i ≤ version seen
-  pub slot : (i : ℕ) → i < slots → version-at seen i ≡ version seen → Absorbed l (string-at seen i) τ
+  pub slot : (i : ℕ) → i < slots → Slot l (string-at seen i) (note-at seen i) (version seen) τ
 
 -- Each word of the row from j up to r stands in some slot of the list's version.
 abbrev pub Seen : List ℕ → List ℕ → ℕ → ℕ → Type 0
 Seen row seen j r =
     (i : ℕ) → j ≤ i → i < r
-    → (k : ℕ) × (k < slots) × (string-at seen k ≡ getD row i 0) × (version-at seen k ≡ version seen)
+    → (k : ℕ) × (k < slots) × (string-at seen k ≡ getD row i 0) × (low (note-at seen k) ≡ version seen)

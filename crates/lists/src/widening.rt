@@ -56,6 +56,20 @@ fn shade_each(list: &mut [u64; 256], k: usize, y: u64)
     }
 }
 
+// Makes a list ready for widening y. The number of shades, 0 for a long list.
+pub fn prepare(list: &mut [u64; 256], n: usize, y: u64) -> usize
+    requires { ⌜ n ≤ 256 ⌝ }
+    ensures few { λ r. ⌜ r ≤ half ⌝ }
+    ensures made { λ r. ⌜ ((l : ℕ) → OfString l (now (list .entry)) n y (λ τ s. Ready l (now (list .exit)) n r τ s)) ⌝ }
+{
+    if UPPER < n {
+        return 0;
+    }
+    let k = gather(list, n, y);
+    shade_each(list, k, y);
+    k
+}
+
 // What k shades say of the positions of z that open.
 fn shade_set(list: &[u64; 256], k: usize, y: u64, z: u64) -> u64
     requires { ⌜ k ≤ half ⌝ }
@@ -106,7 +120,7 @@ fn open_set(list: &[u64; 256], n: usize, k: usize, y: u64, z: u64) -> u64
 // Widens y, a string of l positions, against a list that is ready for it. A pass finds the first position from i on that
 // becomes `*`; the next pass starts behind it, with the string as it then is. What may open only shrinks, so the pass that
 // finds one position alone is the last.
-fn widen(list: &[u64; 256], n: usize, k: usize, l: u32, y: u64) -> u64
+pub fn widen(list: &[u64; 256], n: usize, k: usize, l: u32, y: u64) -> u64
     requires { ⌜ (n ≤ 256) × (k ≤ half) × (l ≤ 32) ⌝ }
     ensures { λ r. ⌜
         ((τ : Entries) (s : Trits) → Ready l (now (list .entry)) n k τ s → y ≡ word s → r ≡ word (widen-list τ s))
@@ -153,7 +167,7 @@ fn shades_subsume(list: &[u64; 256], k: usize, y: u64, z: u64) -> bool
 }
 
 // Does an entry subsume z, which y was widened to?
-fn covered(list: &[u64; 256], n: usize, k: usize, y: u64, z: u64) -> bool
+pub fn covered(list: &[u64; 256], n: usize, k: usize, y: u64, z: u64) -> bool
     requires { ⌜ (n ≤ 256) × (k ≤ half) ⌝ }
     ensures { λ r. ⌜
         ((l : ℕ) (τ : Entries) (s t : Trits) → Ready l (now (list .entry)) n k τ s

@@ -51,6 +51,15 @@ append-entry [] ρ s e = inr e
 append-entry (r ∷ τ) ρ s (inl e) = inl (inl e)
 append-entry (r ∷ τ) ρ s (inr e) = ⊎-elim (λ k. inl (inr k)) inr (append-entry τ ρ s e)
 
+-- And an entry of one of them is one of both.
+pub entry-append : (τ ρ : Entries) (s : Trits) → EntryOf τ s ⊎ EntryOf ρ s → EntryOf (τ ++ ρ) s
+unfolding EntryOf
+entry-append [] ρ s (inl e) = absurd e
+entry-append [] ρ s (inr e) = e
+entry-append (r ∷ τ) ρ s (inl (inl e)) = inl e
+entry-append (r ∷ τ) ρ s (inl (inr e)) = inr (entry-append τ ρ s (inl e))
+entry-append (r ∷ τ) ρ s (inr e) = inr (entry-append τ ρ s (inr e))
+
 -- ---- The entry that subsumes
 
 -- An entry that subsumes s.
@@ -145,7 +154,8 @@ without-entry p (r ∷ τ) s e = go (p r) refl (without-entry p τ s) e
     go false d f (inl e) = (inl e, subst (λ (x : Trits). ¬ (T (p x))) e (λ t. rw d at t))
     go false d f (inr e) = (inr (f e .0), f e .1)
 
-entry-without : (p : Trits → Bool) (τ : Entries) (s : Trits) → EntryOf τ s → ¬ (T (p s)) → EntryOf (without p τ) s
+-- An entry for which p does not hold is not left out.
+pub entry-without : (p : Trits → Bool) (τ : Entries) (s : Trits) → EntryOf τ s → ¬ (T (p s)) → EntryOf (without p τ) s
 unfolding without EntryOf
 entry-without p [] s e n = absurd e
 entry-without p (r ∷ τ) s e n = go (p r) refl (λ k. entry-without p τ s k n) e
@@ -171,6 +181,17 @@ pub remove-without : (y : Trits) (τ : Entries) → remove y τ ≡ without (sub
 unfolding remove without
 remove-without y [] = refl
 remove-without y (s ∷ τ) = ap (λ (r : Entries). cond (subsumes y s) r (s ∷ r)) (remove-without y τ)
+
+-- What y leaves of two lists together.
+pub remove-append : (y : Trits) (τ ρ : Entries) → remove y (τ ++ ρ) ≡ remove y τ ++ remove y ρ
+unfolding remove
+remove-append y [] ρ = refl
+remove-append y (s ∷ τ) ρ = go (subsumes y s) (remove-append y τ ρ)
+  where
+    go : (b : Bool) → remove y (τ ++ ρ) ≡ remove y τ ++ remove y ρ
+        → cond b (remove y (τ ++ ρ)) (s ∷ remove y (τ ++ ρ)) ≡ cond b (remove y τ) (s ∷ remove y τ) ++ remove y ρ
+    go true e = e
+    go false e = ap (λ (r : Entries). s ∷ r) e
 
 -- What v leaves of a list.
 pub unmatched-without : (v : Trits) (τ : Entries) → unmatched v τ ≡ without (λ y. matches y v) τ

@@ -15,6 +15,7 @@ pub mod ChangeSide
 pub mod Subsuming
 pub mod Entries
 pub mod Stability
+pub mod Quiet
 pub mod Pieces
 pub mod TakenAway
 pub mod Widest

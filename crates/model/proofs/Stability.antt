@@ -131,7 +131,7 @@ module _ (τ : Entries) (i : ℕ) (y : Trits) where
   unfolding opens
   opens-both h = and-first (ltb 1 (fixed-count y) && fixed i y) (subsumed τ (flipped i y)) h
 
-  opens-many : T (opens τ i y) → 1 < fixed-count y
+  pub opens-many : T (opens τ i y) → 1 < fixed-count y
   opens-many h = ltb→lt 1 (fixed-count y) (and-first (ltb 1 (fixed-count y)) (fixed i y) (opens-both h))
 
   pub opens-fixed : T (opens τ i y) → T (fixed i y)
@@ -141,7 +141,7 @@ module _ (τ : Entries) (i : ℕ) (y : Trits) where
   unfolding opens
   opens-subsumed h = and-second (ltb 1 (fixed-count y) && fixed i y) (subsumed τ (flipped i y)) h
 
-  opens-all : 1 < fixed-count y → T (fixed i y) → T (subsumed τ (flipped i y)) → T (opens τ i y)
+  pub opens-all : 1 < fixed-count y → T (fixed i y) → T (subsumed τ (flipped i y)) → T (opens τ i y)
   unfolding opens
   opens-all n f h =
       and-both (ltb 1 (fixed-count y) && fixed i y) (subsumed τ (flipped i y))
@@ -163,8 +163,8 @@ module _ (τ : Entries) (i : ℕ) (y : Trits) where
 abbrev pub PartOf : Entries → Entries → Type 0
 PartOf τ σ = (r : Trits) → T (subsumed τ r) → T (subsumed σ r)
 
--- what opens in a wider string, against a part of the list, opens
-opens-within : (τ σ : Entries) (i : ℕ) (z y : Trits) → PartOf τ σ → T (subsumes z y) → T (opens τ i z) → T (opens σ i y)
+-- What opens in a wider string, against a part of the list, opens.
+pub opens-within : (τ σ : Entries) (i : ℕ) (z y : Trits) → PartOf τ σ → T (subsumes z y) → T (opens τ i z) → T (opens σ i y)
 opens-within τ σ i z y part over h =
     let many = opens-many τ i z h in
     opens-all σ i y (omega (arith, count-within z y over)) (fixed-within i z y over (opens-fixed τ i z h))

@@ -8,3 +8,4 @@ pub mod LackedBits
 pub mod Clashes
 pub mod Clearing
 pub mod Shades
+pub mod Stirring

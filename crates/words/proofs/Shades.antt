@@ -65,7 +65,7 @@ module _ (op : ℕ → ℕ → ℕ) (of : (F G : Op) → Digitwise F → Digitwi
 -- ---- A string t that subsumes s is s with some positions made `*`
 
 -- a position stays or becomes `*`
-wider : (P : Trit → Trit → Type 0) → ((b : Trit) → P b b) → ((b : Trit) → P b t*) → (b c : Trit) → subsumes-digit c b ≡ true
+pub wider : (P : Trit → Trit → Type 0) → ((b : Trit) → P b b) → ((b : Trit) → P b t*) → (b c : Trit) → subsumes-digit c b ≡ true
     → P b c
 wider P same star t0 t0 h = same t0
 wider P same star t1 t0 h = never h
@@ -76,7 +76,7 @@ wider P same star t* t1 h = never h
 wider P same star b t* h = star b
 
 -- a claim about e, s and t, position by position
-widened : (P : Trits → Trits → Trits → Type 0) → P [] [] []
+pub widened : (P : Trits → Trits → Trits → Type 0) → P [] [] []
     → ((a b c : Trit) (e s t : Trits) → subsumes-digit c b ≡ true → length e ≡ length s → subsumes t s ≡ true → P e s t
     → P (a ∷ e) (b ∷ s) (c ∷ t))
     → (e s t : Trits) → length e ≡ length s → subsumes t s ≡ true → P e s t

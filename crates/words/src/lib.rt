@@ -14,6 +14,7 @@ ghost use Rattle.model.specs.Groups.{Bits, cut as cut-string};
 ghost use Rattle.model.specs.Strings.{Trits, subsumes as subsumes-string, matches as matches-string, meet as meet-string};
 ghost use Rattle.model.specs.Strings.{or-strings, all-zero, fixed as fixed-string, fixed-count, flipped as flipped-string};
 ghost use Rattle.model.specs.Strings.{flip, starred as starred-string, opposed as opposed-string};
+ghost use Rattle.model.specs.Growth.{stirs as stirs-string};
 ghost use Rattle.model.specs.Widest.{opposed-count};
 ghost use Rattle.words.specs.Words.{entry as entry-string, word as word-string, set-word, word-of, entry-of, fixed-word};
 ghost use Rattle.words.specs.Words.{care-of, subsumes-word, matches-word, or-word, zero-word, starless as starless-string};
@@ -296,6 +297,22 @@ pub fn shade_subsumes(shade: u64, y: u64, z: u64) -> bool
 {
     let opened = fixed(y) ^ fixed(z);
     ((shade >> 32) & (opened | (shade % HALF))) == 0
+}
+
+// Does e stir y, whose widening leaves the positions of `kept` fixed? It does where it opens one of these and fixes none of
+// the others below it.
+pub fn stirs(e: u64, y: u64, kept: u64) -> bool
+    ensures strings { λ r. ⌜
+        ((d s t : Trits) → length d ≡ length s → length s ≤ 32 → e ≡ word-string d → y ≡ word-string s → kept ≡ care-of t
+        → subsumes-string t s ≡ true → r ≡ stirs-string d s t)
+        ⌝ }
+{
+    let opens = openings(e, y) & kept;
+    if opens == 0 {
+        return false;
+    }
+    let fixes = fixed(e);
+    ((opens - 1) & (fixes ^ (fixes & kept))) == 0
 }
 
 // The bits of w at the positions of keep, moved together.

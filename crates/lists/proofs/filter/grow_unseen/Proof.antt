@@ -62,7 +62,7 @@ full c τ ρ h y f =
     let lp = come at-grow .loop in
     let w = lp .inv .2 τ ρ h y f in
     let made = at-grow .grow-noted .ensures .1 .0 _ (getD ρ (lp .j) []) (w .held) (holds-length y (lp .j) (omega arith))
-    (y .here (lp .j) (omega arith)) in
+    (y .here (lp .j) (omega arith)) (w .known) in
     makes-full (so-far-stop w [] (omega (arith, y .count)) made {l′ = 0} {list″ = []} (c .enum-told .given .1)) refl
 
 returns : tie.Need-returns Inv-loop μ-loop
@@ -97,7 +97,7 @@ loop-again c =
           let w = lp .inv .2 τ ρ h y f in
           let long = holds-length y (lp .j) (omega arith) in
           let here = y .here (lp .j) (omega arith) in
-          let next = so-far-step w [] (omega (arith, y .count)) (g .1 .0 _ _ (w .held) long here) is
+          let next = so-far-step w [] (omega (arith, y .count)) (g .1 .0 _ _ (w .held) long here (w .known)) is
           (λ κ e. g .1 .1 _ _ (w .held) long here κ (w .known) e) in
           skip-seen y next _ (u .0) (u .1) (u .2),
     )

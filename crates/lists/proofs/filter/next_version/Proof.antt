@@ -1,5 +1,8 @@
--- No slot has the version risen by one (`filter-next`); a filter filled anew is good for any list (`filter-start`).
+-- A slot says the same of the list with one string appended and the version risen by one (`filter-next`); a filter filled
+-- anew is good for any list (`filter-start`).
+use mathlib.Core.List.{[], _∷_, _++_}
 use native.Mathlib.Omega.{arith}
+use Rattle.model.specs.Growth.{remove}
 use Rattle.lists.proofs.Absorption.{filter-start, filter-next}
 use borrow.Author.Needs.{needs}
 use Rattle.lists.proofs.filter.next_version.Statement.{statement}
@@ -15,13 +18,13 @@ element-write-seen : tie.Need-element-write-seen
 element-write-seen c = search needs
 
 returns : tie.Need-returns
-returns c = λ τ κ f. filter-next f κ
+returns c = λ τ e f. filter-next f (omega arith) e
 
 zero-requires : tie.Need-zero-requires
 zero-requires c κs = search needs
 
 returns-2 : tie.Need-returns-2
-returns-2 c = λ τ κ f. filter-start κ (omega arith) (c .before .zero .ensures .0)
+returns-2 c = λ τ e f. filter-start (remove e τ ++ (e ∷ [])) (omega arith) (c .before .zero .ensures .0)
 
 pub next-version-spec : {M : Type 1} → statement M
 next-version-spec =

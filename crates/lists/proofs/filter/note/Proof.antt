@@ -1,4 +1,4 @@
--- The slot of y then holds a string that the list absorbs, of the list's version; no other slot changes (`filter-note`).
+-- The slot of y then notes a string that changes nothing, of the list's version; no other slot changes (`filter-note`).
 use Rattle.lists.proofs.Absorption.{filter-note}
 use borrow.Author.Needs.{needs}
 use Rattle.lists.proofs.filter.note.Statement.{statement}
@@ -26,7 +26,8 @@ element-write-seen-2 : tie.Need-element-write-seen-2
 element-write-seen-2 c = search needs
 
 returns : tie.Need-returns
-returns c = λ l τ s f long is stays. filter-note f _ _ s (c .before .slot .ensures) long is stays
+returns c = λ l τ s z short f long is kept over idle.
+    filter-note f short _ _ _ s z (c .before .slot .ensures) long is kept over idle
 
 pub note-spec : {M : Type 1} → statement M
 note-spec =
