@@ -89,7 +89,7 @@ fn close_rest(
     Grown::Count(k)
 }
 
-// Close, for each c of a list in turn. From 8 entries on a filter is worth its making. `row` is room.
+// Close, for each c of a list in turn. From 16 entries on a filter is worth its making. `row` is room.
 pub fn close(
     c: &[u64; 256],
     cn: usize,
@@ -108,7 +108,7 @@ pub fn close(
     let mut n = 0;
     let mut i = 0;
     while i < cn {
-        if 8 <= n {
+        if 16 <= n {
             return close_rest(c, i, cn, l, list, n, row);
         }
         match close_one(list, n, l, c[i], row) {

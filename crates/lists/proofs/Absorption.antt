@@ -14,7 +14,8 @@ use lib.ListN.{length, getD, set, replicate, length-set, length-append, length-r
 use lib.Pow as pow
 use lib.Seq.{getD-set-same, getD-set-other}
 use Rattle.model.specs.Strings.{Trits, subsumes, all-zero}
-use Rattle.model.specs.Growth.{Entries, limit, subsumed, remove, widen, stirs, absorbed, grow}
+use Rattle.model.specs.Growth.{Entries, limit, subsumed, remove, widen, absorbed, grow}
+use Rattle.model.specs.Stirring.{stirs}
 use Rattle.model.specs.Widest.{EntryOf}
 use Rattle.model.proofs.Entries.{subsumes-length, remove-append}
 use Rattle.model.proofs.Growth.{grow-absorbed}

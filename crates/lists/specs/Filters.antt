@@ -7,7 +7,8 @@ use Prim.Native.Nat.{ℕ, _+_, _≤_, _<_}
 use lib.Dec.{T}
 use lib.ListN.{length, getD}
 use Rattle.model.specs.Strings.{Trits, subsumes, all-zero}
-use Rattle.model.specs.Growth.{Entries, subsumed, widen, stirs}
+use Rattle.model.specs.Growth.{Entries, subsumed, widen}
+use Rattle.model.specs.Stirring.{stirs}
 use Rattle.model.specs.Widest.{EntryOf}
 use Rattle.words.specs.Words.{word, care-of, high, low}
 

@@ -223,6 +223,9 @@ fn fresh_short(list: &mut [u64; 256], n: usize, l: u32, y: u64) -> u64
         ⌝ }
 {
     let k = gather(list, n, y);
+    if k == 0 {
+        return y;
+    }
     if edged(list, k, y) {
         shade_each(list, k, y);
         return widened(list, n, k, l, y);

@@ -11,7 +11,8 @@ use lib.Dec.{T, ltb}
 use lib.ListN.{length}
 use Rattle.model.specs.Strings.{Trit, t0, t1, t*, Trits, subsumes-digit, subsumes, all-zero, fixed-digit, flip, fixed}
 use Rattle.model.specs.Strings.{fixed-count, flipped, starred}
-use Rattle.model.specs.Growth.{Entries, subsumed, remove, widen-at, widen-from, widen, stirs, absorbed}
+use Rattle.model.specs.Growth.{Entries, subsumed, remove, widen-at, widen-from, widen, absorbed}
+use Rattle.model.specs.Stirring.{stirs}
 use Rattle.model.specs.Widest.{EntryOf}
 use Rattle.model.proofs.Tests.{tests, or-cases, or-left, or-right, and-first, and-second, and-both, decide}
 use Rattle.model.proofs.Subsuming.{subsumes-same, subsumes-trans}

@@ -8,8 +8,7 @@ use Prim.Native.Nat.{ℕ, zero, suc, _≤_}
 use lib.Dec.{T, ltb}
 use lib.ListN.{length}
 use Rattle.model.specs.Groups.{Bits}
-use Rattle.model.specs.Strings.{Trits, fixed-digit, subsumes-digit, flip, covers, subsumes, all-zero, exactly, fixed}
-use Rattle.model.specs.Strings.{fixed-count, flipped, starred}
+use Rattle.model.specs.Strings.{Trits, covers, subsumes, all-zero, exactly, fixed, fixed-count, flipped, starred}
 
 module _ {A B : Type 0} where
   infixl 20 _>>=_
@@ -65,15 +64,6 @@ widen-from τ i (suc n) y = widen-from τ (suc i) n (widen-at τ i y)
 -- widening operator of abstract interpretation.)
 unfoldable pub widen : Entries → Trits → Trits
 widen τ y = widen-from τ 0 (length y) y
-
--- e stirs s, which was widened to z: at some position that is fixed in z, e subsumes s as it is when Widen comes there (that
--- is z before the position and s from it on) with that value flipped.
-unfoldable pub stirs : Trits → Trits → Trits → Bool
-stirs [] s z = false
-stirs (t ∷ e) [] z = false
-stirs (t ∷ e) (u ∷ s) [] = false
-stirs (t ∷ e) (u ∷ s) (v ∷ z) =
-    (fixed-digit v && subsumes-digit t (flip v) && subsumes e s) || (subsumes-digit t v && stirs e s z)
 
 -- Growing by y changes nothing: y is all zero, or an entry subsumes it once it is widened.
 unfoldable pub absorbed : Entries → Trits → Bool

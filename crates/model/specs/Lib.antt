@@ -3,6 +3,7 @@ pub mod Strings
 pub mod Growth
 pub mod Tables
 pub mod Widest
+pub mod Stirring
 pub mod Full
 pub mod Questions
 pub mod Terms

@@ -10,7 +10,7 @@ use lib.Bits.{bitAnd, bitXor, and-block, xor-block, and-lt, xor-lt, and-zero-l}
 use lib.Dec.{eqb, lit<}
 use lib.ListN.{length}
 use Rattle.model.specs.Strings.{Trit, t0, t1, t*, Trits, fixed-digit, flip, subsumes-digit, subsumes}
-use Rattle.model.specs.Growth.{stirs}
+use Rattle.model.specs.Stirring.{stirs}
 use Rattle.words.specs.Words.{care-bit, care-of, set-word, openings}
 use Rattle.words.proofs.Digits.{care-bit-lt, digits-equal, nine, never, never′, eqb-digit}
 use Rattle.words.proofs.Codec.{bit-lt}

@@ -14,7 +14,7 @@ ghost use Rattle.model.specs.Groups.{Bits, cut as cut-string};
 ghost use Rattle.model.specs.Strings.{Trits, subsumes as subsumes-string, matches as matches-string, meet as meet-string};
 ghost use Rattle.model.specs.Strings.{or-strings, all-zero, fixed as fixed-string, fixed-count, flipped as flipped-string};
 ghost use Rattle.model.specs.Strings.{flip, starred as starred-string, opposed as opposed-string};
-ghost use Rattle.model.specs.Growth.{stirs as stirs-string};
+ghost use Rattle.model.specs.Stirring.{stirs as stirs-string};
 ghost use Rattle.model.specs.Widest.{opposed-count};
 ghost use Rattle.words.specs.Words.{entry as entry-string, word as word-string, set-word, word-of, entry-of, fixed-word};
 ghost use Rattle.words.specs.Words.{care-of, subsumes-word, matches-word, or-word, zero-word, starless as starless-string};
