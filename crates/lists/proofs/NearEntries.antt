@@ -12,9 +12,10 @@ use lib.Dec.{T, eqb}
 use lib.ListN.{length, getD, set, take, length-append, List·getD-append}
 use lib.Seq.{getD-at, getD-set-same, getD-set-other, take-suc, take-length}
 use Rattle.model.specs.Groups.{or}
-use Rattle.model.specs.Strings.{Trit, t0, t1, t*, Trits, subsumes-digit, subsumes, flipped}
+use Rattle.model.specs.Strings.{Trits, subsumes-digit, subsumes}
 use Rattle.model.specs.Growth.{Entries, subsumed}
 use Rattle.model.specs.Tables.{Wide}
+use Rattle.model.proofs.Subsuming.{digit-trans}
 use Rattle.model.proofs.Tests.{tests, true-of}
 use Rattle.words.specs.Words.{word, set-word, lack-count, near, openings, shade-word}
 use Rattle.words.proofs.Codec.{set-word-or}
@@ -23,16 +24,6 @@ use Rattle.lists.specs.Widening.{near-list, open-set, half, Gathered, Sh
 
 -- ---- Of a string t that subsumes s
 
--- by way of a third digit
-subsumes-digit-over : (t v u : Trit) → T (subsumes-digit t v) → T (subsumes-digit v u) → T (subsumes-digit t u)
-subsumes-digit-over t0 t0 u h k = k
-subsumes-digit-over t0 t1 u h k = absurd h
-subsumes-digit-over t0 t* u h k = absurd h
-subsumes-digit-over t1 t0 u h k = absurd h
-subsumes-digit-over t1 t1 u h k = k
-subsumes-digit-over t1 t* u h k = absurd h
-subsumes-digit-over t* v u h k = tt
-
 -- an entry that subsumes t lacks nothing of s
 lacks-none : (e t s : Trits) → T (subsumes e t) → T (subsumes t s) → lack-count e s ≡ 0
 unfolding subsumes lack-count
@@ -40,7 +31,7 @@ lacks-none [] t s h k = refl
 lacks-none (a ∷ e) t [] h k = refl
 lacks-none (a ∷ e) [] (u ∷ s) h k = absurd h
 lacks-none (a ∷ e) (v ∷ t) (u ∷ s) h k =
-    rw (true-of (subsumes-digit a u) (search (tests, subsumes-digit-over a v u)))
+    rw (true-of (subsumes-digit a u) (search (tests, digit-trans a v u)))
     (lacks-none e t s (search (tests)) (search (tests)))
 
 -- it is near s

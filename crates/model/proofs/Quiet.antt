@@ -15,7 +15,7 @@ use Rattle.model.specs.Growth.{Entries, subsumed, remove, widen-at, wide
 use Rattle.model.specs.Stirring.{stirs}
 use Rattle.model.specs.Widest.{EntryOf}
 use Rattle.model.proofs.Tests.{tests, or-cases, or-left, or-right, and-first, and-second, and-both, decide}
-use Rattle.model.proofs.Subsuming.{subsumes-same, subsumes-trans}
+use Rattle.model.proofs.Subsuming.{digit-trans, subsumes-same, subsumes-trans}
 use Rattle.model.proofs.Entries.{entry-append, subsumed-append, above, entry-subsumes, entry-without, remove-without}
 use Rattle.model.proofs.Stability.{PartOf, flipped-within, at-over, from-over, opens, opens-fixed, opens-many}
 use Rattle.model.proofs.Stability.{opens-subsumed, opens-all, opened, unopened, opens-within, part-without}
@@ -87,16 +87,6 @@ stirs-at (suc i) (a ∷ e) (u ∷ s) (w ∷ t) (v ∷ z) o p k f h =
     (and-first (subsumes-digit a w) (subsumes e (flipped i t)) h))
     (stirs-at i e s t z (and-second (subsumes-digit v w) (subsumes z t) o) (and-second (subsumes-digit w u) (subsumes t s) p)
     (λ j l. k (suc j) (suc-le-suc l)) f (and-second (subsumes-digit a w) (subsumes e (flipped i t)) h)))
-
--- a digit subsumes what one that it subsumes does
-digit-trans : (a b c : Trit) → T (subsumes-digit a b) → T (subsumes-digit b c) → T (subsumes-digit a c)
-digit-trans t0 t0 c h k = k
-digit-trans t0 t1 c h k = absurd h
-digit-trans t0 t* c h k = absurd h
-digit-trans t1 t0 c h k = absurd h
-digit-trans t1 t1 c h k = k
-digit-trans t1 t* c h k = absurd h
-digit-trans t* b c h k = tt
 
 -- A string stirs what one that it subsumes stirs.
 pub stirs-wider : (d e s z : Trits) → T (subsumes d e) → T (stirs e s z) → T (stirs d s z)

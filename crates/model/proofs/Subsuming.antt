@@ -23,6 +23,16 @@ subsumes-same s = subsumes-exact s s .1 (λ g c. c)
 pub subsumes-trans : (q r s : Trits) → T (subsumes q r) → T (subsumes r s) → T (subsumes q s)
 subsumes-trans q r s h k = subsumes-exact q s .1 (λ g c. subsumes-covers q r g h (subsumes-covers r s g k c))
 
+-- A digit subsumes what one that it subsumes does.
+pub digit-trans : (a b c : Trit) → T (subsumes-digit a b) → T (subsumes-digit b c) → T (subsumes-digit a c)
+digit-trans t0 t0 c h k = k
+digit-trans t0 t1 c h k = absurd h
+digit-trans t0 t* c h k = absurd h
+digit-trans t1 t0 c h k = absurd h
+digit-trans t1 t1 c h k = k
+digit-trans t1 t* c h k = absurd h
+digit-trans t* b c h k = tt
+
 -- Digits that subsume each other are one.
 pub same-digit : (t u : Trit) → T (subsumes-digit t u) → T (subsumes-digit u t) → t ≡ u
 same-digit t0 t0 h k = refl
