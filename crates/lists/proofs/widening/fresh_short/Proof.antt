@@ -50,7 +50,8 @@ widened-requires c κs = search needs
 returns-2 : tie.Need-returns-2
 returns-2 c = λ τ s h e y.
     let at-shade = c .before .before in
-    let at-gather = at-shade .before .before .before .before .before .before in
+    let at-edged = at-shade .before .before .before in
+    let at-gather = at-edged .before .before .before in
     let g = at-gather .gather .ensures .1 _ τ s h e y in
     let k = at-shade .shade-each .ensures _ _ τ _ s (omega arith) (g .0) (g .1) y in
     (k .0, c .widened .ensures τ s (record { held = k .0; shades = λ few. k .1; long = e }) y)

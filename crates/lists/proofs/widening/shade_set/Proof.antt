@@ -66,4 +66,5 @@ pub shade-set-spec : {M : Type 1} → statement M
 shade-set-spec =
     tie.close
     (tie.spec
-    Inv-loop μ-loop loop-holds add-shade-openings mul-shade-openings element-copy-out-shade-openings shade-openings-requires add-i loop-less loop-again returns)
+    Inv-loop μ-loop loop-holds add-shade-openings mul-shade-openings element-copy-out-shade-openings
+    shade-openings-requires add-i loop-less loop-again returns)

@@ -65,4 +65,5 @@ pub shades-subsume-spec : {M : Type 1} → statement M
 shades-subsume-spec =
     tie.close
     (tie.spec
-    Inv-loop μ-loop loop-holds add-shade-subsumes mul-shade-subsumes element-copy-out-shade-subsumes shade-subsumes-requires add-i loop-less loop-again returns)
+    Inv-loop μ-loop loop-holds add-shade-subsumes mul-shade-subsumes element-copy-out-shade-subsumes
+    shade-subsumes-requires add-i loop-less loop-again returns)
