@@ -1,4 +1,5 @@
 pub mod Writing
+pub mod Printing
 pub mod PartByPart
 pub mod Blocks
 pub mod RunByEquations

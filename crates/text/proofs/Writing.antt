@@ -2,7 +2,7 @@
 use mathlib.Core.Path.{_≡_, refl, sym, ap, _∙_}
 use mathlib.Core.Bool.{Bool, true, false, cond}
 use mathlib.Core.List.{List, [], _∷_}
-use Prim.Native.Nat.{ℕ, zero, suc, _+_, _-_, _*_, _/_, _%_, _≤_, _<_}
+use Prim.Native.Nat.{ℕ, zero, suc, _+_, _*_, _/_, _%_, _≤_, _<_}
 use native.Mathlib.Nat.{zero-mul, suc-mul}
 use native.Mathlib.Numerals.{add-one}
 use native.Mathlib.Omega.{arith}
@@ -96,42 +96,29 @@ fixed-one zero v ne f = absurd (ne refl)
 fixed-one (suc c) zero ne f = absurd (f refl)
 fixed-one (suc c) (suc v) ne f = refl
 
-entry-length : (s : Trits) → length (entry-text s) ≡ length s + 1
+pub entry-length : (s : Trits) → length (entry-text s) ≡ length s + 1
 unfolding entry-text
 entry-length [] = refl
 entry-length (t ∷ s) = omega (arith, entry-length s)
 
--- a turn of an entry: its next character is written
-pub entry-turn : (out : List ℕ) (i end c v x : ℕ) → i < end → x ≡ character (trit-of (c % 2) (v % 2))
-    → sets (set out i x) (i + 1) (entry-text (string (end - (i + 1)) (record { care = c / 2; value = v / 2 })))
-    ≡ sets out i (entry-text (string (end - i) (record { care = c; value = v })))
-unfolding entry-text string
-entry-turn out i end c v x lt e =
-    let d : end - i ≡ suc (end - (i + 1)) = omega arith in
-    rw (d, e, add-one i)
-
--- After the last position the newline is left.
-pub entry-end : (out : List ℕ) (i end c v : ℕ) → i ≡ end
-    → set out end newline ≡ sets out i (entry-text (string (end - i) (record { care = c; value = v })))
-unfolding entry-text string
-entry-end out i end c v e =
-    let d : end - i ≡ 0 = omega arith in
-    rw (d, e)
-
 module _ {t : Table} (good : GoodTable t) (i : ℕ) (lt : i < t .n) where
   -- the entry at an index
-  abbrev here : Trits
+  abbrev pub here : Trits
   here = getD (entries-of t) i []
 
-  entries-from : drop i (entries-of t) ≡ here ∷ drop (i + 1) (entries-of t)
+  pub entries-from : drop i (entries-of t) ≡ here ∷ drop (i + 1) (entries-of t)
   entries-from =
       drop-cons (entries-of t) i [] (omega (arith, lt, good-holds good .count))
       ∙ ap (λ (k : ℕ). here ∷ drop k (entries-of t)) (sym (add-one i))
 
   -- the words at that index are its words
-  entry-here : string (t .l) (record { care = getD (t .care) i 0; value = getD (t .value) i 0 }) ≡ here
+  pub entry-here : string (t .l) (record { care = getD (t .care) i 0; value = getD (t .value) i 0 }) ≡ here
   entry-here =
       string-of-entry (t .l) _ here (stores-length (good-holds good) i lt) (stores-at (good-holds good) i lt)
+
+  -- its line
+  pub here-length : length (entry-text here) ≡ t .l + 1
+  here-length = entry-length here ∙ ap (λ (k : ℕ). k + 1) (stores-length (good-holds good) i lt)
 
   -- what is left to write is one line longer than after it
   pub left-length : length (entries-text (drop i (entries-of t)))
@@ -139,20 +126,7 @@ module _ {t : Table} (good : GoodTable t) (i : ℕ) (lt : i < t .n) where
   unfolding entries-text
   left-length =
       rw entries-from (length-append (entry-text here) (entries-text (drop (i + 1) (entries-of t)))
-      ∙ ap (λ (k : ℕ). k + length (entries-text (drop (i + 1) (entries-of t))))
-      (entry-length here ∙ ap (λ (k : ℕ). k + 1) (stores-length (good-holds good) i lt)))
-
-  -- One entry more.
-  pub entries-turn : (out : List ℕ) (at : ℕ) {out′ : List ℕ}
-      → out′ ≡ sets out at (entry-text (string (t .l) (record { care = getD (t .care) i 0; value = getD (t .value) i 0 })))
-      → sets out′ (at + (t .l + 1)) (entries-text (drop (i + 1) (entries-of t)))
-      ≡ sets out at (entries-text (drop i (entries-of t)))
-  unfolding entries-text
-  entries-turn out at e =
-      let long : length (entry-text here) ≡ t .l + 1 =
-      entry-length here ∙ ap (λ (k : ℕ). k + 1) (stores-length (good-holds good) i lt) in
-      rw (e, entry-here, entries-from, ← long)
-      (sym (sets-append (entry-text here) (entries-text (drop (i + 1) (entries-of t))) out at))
+      ∙ ap (λ (k : ℕ). k + length (entries-text (drop (i + 1) (entries-of t)))) here-length)
 
 -- After the last entry nothing is left.
 pub entries-end : {t : Table} → GoodTable t → (i : ℕ) → t .n ≤ i → entries-text (drop i (entries-of t)) ≡ []

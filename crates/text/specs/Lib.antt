@@ -1,4 +1,5 @@
 pub mod Text
+pub mod Printing
 pub mod Lines
 pub mod Passes
 pub mod RunTexts

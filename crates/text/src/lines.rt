@@ -6,8 +6,9 @@ ghost use lib.ListN.{length};
 ghost use lib.Seq.{sets};
 ghost use Rattle.words.specs.Words.{string, trit-of};
 ghost use Rattle.tables.specs.Values.{entries-of, GoodTable};
-ghost use Rattle.text.specs.Text.{digit, decimal, line, entry-text, entries-text};
+ghost use Rattle.text.specs.Text.{digit, decimal, line, entries-text};
 ghost use Rattle.text.specs.Text.{character as character-of};
+ghost use Rattle.text.specs.Printing.{Printed};
 
 // ---- Words and numbers
 
@@ -100,24 +101,25 @@ fn character(care: u32, value: u32) -> u8
     }
 }
 
-// Writes an entry straight into the output: a character for each position, then a newline.
-fn write_entry(out: &mut [u8], at: usize, l: u32, care: u32, value: u32)
-    requires { ⌜ at + (l + 1) ≤ length (now out) ⌝ }
-    ensures { λ _. ⌜
-        now (out .exit) ≡ sets (now (out .entry)) at (entry-text (string l (record { care = care; value = value })))
+// Writes an entry straight into the output: a character for each position, then a newline. The place after it.
+fn write_entry(out: &mut [u8], at: usize, l: u32, care: u32, value: u32) -> usize
+    requires { ⌜ (l ≤ 32) × (at + (l + 1) ≤ length (now out)) ⌝ }
+    ensures after { λ r. ⌜ r ≡ at + (l + 1) ⌝ }
+    ensures printed { λ _. ⌜
+        Printed (string l (record { care = care; value = value })) at (now (out .entry)) (now (out .exit))
         ⌝ }
 {
     let end = at + l as usize;
-    let mut c = care;
-    let mut v = value;
-    let mut i = at;
-    while i < end {
-        out[i] = character(c % 2, v % 2);
-        c = c / 2;
-        v = v / 2;
-        i += 1;
+    let after = end + 1;
+    let mut here = at;
+    while here < end {
+        let next = here + 1;
+        let i = (here - at) as u32;
+        out[here] = character((care >> i) % 2, (value >> i) % 2);
+        here = next;
     }
     out[end] = b'\n';
+    after
 }
 
 // Writes the entries of a table, a line each.
@@ -127,13 +129,10 @@ pub fn write_entries(out: &mut [u8], at: usize, t: Table)
 {
     let l = t.l;
     let n = t.n;
-    let care = t.care;
-    let value = t.value;
     let mut here = at;
     let mut i = 0;
     while i < n {
-        write_entry(out, here, l, care[i], value[i]);
-        here = here + (l as usize + 1);
+        here = write_entry(out, here, l, t.care[i], t.value[i]);
         i += 1;
     }
 }

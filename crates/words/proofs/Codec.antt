@@ -44,6 +44,18 @@ unfolding string
 string-length zero e = refl
 string-length (suc l) e = ap suc (string-length l _)
 
+-- a position of the string of two words, of their bits
+pub string-at : (l i : ℕ) (e : Entry) → i < l → getD (string l e) i t* ≡ trit-of (e .care / 2 ^ i % 2) (e .value / 2 ^ i % 2)
+unfolding string
+string-at zero i e lt = absurd (omega arith)
+string-at (suc l) zero e lt = rw (div-one (e .care), div-one (e .value))
+string-at (suc l) (suc i) e lt =
+    string-at l i (record { care = e .care / 2; value = e .value / 2 }) (omega arith)
+    ∙ ap₂ (λ (c v : ℕ). trit-of (c % 2) (v % 2)) (halved (e .care)) (halved (e .value))
+  where
+    halved : (w : ℕ) → w / 2 / 2 ^ i ≡ w / 2 ^ suc i
+    halved w = shr-shr w 1 i ∙ ap (λ (k : ℕ). w / 2 ^ k) (omega arith)
+
 pub string-of-entry : (l : ℕ) (e : Entry) (s : Trits) → length s ≡ l → e ≡ entry s → string l e ≡ s
 string-of-entry l e s n d = rw (← n, d) (string-entry s)
 

@@ -1,80 +1,105 @@
--- Storing the text of the bits that are left gives the whole entry; a turn stores the character of the lowest ones.
-use mathlib.Core.Path.{_≡_, refl, ap, _∙_}
-use Prim.Native.Nat.{ℕ, _-_, _≤_}
+-- Of the entry's text the bytes before `here` stand (`Stands`); a turn writes the character of one position, and the newline is
+-- the last byte.
+use mathlib.Core.Path.{_≡_, sym, ap, _∙_}
+use Prim.Native.Nat.{ℕ, _+_, _-_, _≤_, _<_}
 use native.Mathlib.Omega.{arith}
-use lib.ListN.{length, length-set}
-use lib.Seq.{sets}
-use Rattle.words.specs.Words.{string}
-use Rattle.text.specs.Text.{entry-text}
-use Rattle.text.proofs.Writing.{entry-turn, entry-end}
 use borrow.Author.Needs.{needs}
+use lib.ListN.{getD, length-set}
+use Rattle.words.specs.declared.Entry.{Entry}
+use Rattle.words.specs.Words.{string}
+use Rattle.words.proofs.Codec.{string-length}
+use Rattle.text.specs.Text.{entry-text}
+use Rattle.text.proofs.Printing.{Stands, stands-start, stands-turn, printed-end, character-at, newline-at}
 use Rattle.text.proofs.lines.write_entry.Statement.{statement}
 use Rattle.text.proofs.lines.write_entry.Tie as tie
 
 abbrev Inv-loop : tie.InvT-loop
-Inv-loop out₀ at l care value end c₀ v₀ i₀ out c v i =
-    (i ≤ end)
-    × (sets out i (entry-text (string (end - i) (record { care = c; value = v })))
-    ≡ sets out₀ at (entry-text (string l (record { care = care; value = value }))))
-    × (length out ≡ length out₀)
+Inv-loop out₀ at l care value end after here₀ out here =
+    (at ≤ here) × (here ≤ end)
+    × Stands (entry-text (string l (record { care = care; value = value }))) at out₀ out (here - at)
 
 abbrev μ-loop : tie.MeasureT-loop
-μ-loop out₀ at l care value end c₀ v₀ i₀ out c v i = end - i
+μ-loop out₀ at l care value end after here₀ out here = end - here
 
 add-end : tie.Need-add-end Inv-loop μ-loop
 add-end c = search needs
 
+add-after : tie.Need-add-after Inv-loop μ-loop
+add-after c = search needs
+
 loop-holds : tie.Need-loop-holds Inv-loop μ-loop
 loop-holds c =
-    let at-start = c .before in (
-      omega arith,
-      ap (λ (k : ℕ). sets (at-start .args .out .now) (at-start .args .at)
-          (entry-text (string k (record { care = at-start .args .care; value = at-start .args .value })))) (omega arith),
-      refl,
-    )
+    let at-start = c .before in
+    let none : at-start .args .at - at-start .args .at ≡ 0 = omega arith in
+    (omega arith, omega arith, rw none (stands-start _ (at-start .args .at) (at-start .args .out .now)))
+
+add-next : tie.Need-add-next Inv-loop μ-loop
+add-next c = search needs
+
+sub-i : tie.Need-sub-i Inv-loop μ-loop
+sub-i c = search needs
+
+cast-i : tie.Need-cast-i Inv-loop μ-loop
+cast-i c = search needs
+
+shr-character : tie.Need-shr-character Inv-loop μ-loop
+shr-character c = search needs
+
+shr-character-2 : tie.Need-shr-character-2 Inv-loop μ-loop
+shr-character-2 c = search needs
 
 character-requires : tie.Need-character-requires Inv-loop μ-loop
 character-requires c κs = search needs
 
 slice-write-out : tie.Need-slice-write-out Inv-loop μ-loop
 slice-write-out c =
-    let at-loop-test = c .before in
-    let at-loop = at-loop-test .before in
+    let at-loop = c .before .before in
     let at-start = at-loop .before .before in
-    omega (arith, at-start .pre, at-loop .loop .inv .2, at-loop-test .loop-test .taken)
-
-add-i : tie.Need-add-i Inv-loop μ-loop
-add-i c = search needs
+    omega (arith, at-start .pre, at-loop .loop .inv .2 .long, c .before .loop-test .taken)
 
 loop-less : tie.Need-loop-less Inv-loop μ-loop
 loop-less c = search needs
 
 loop-again : tie.Need-loop-again Inv-loop μ-loop
 loop-again c =
-    let at-loop-test = c .before in
-    let at-loop = at-loop-test .before in (
-      omega (arith, at-loop-test .loop-test .taken),
-      entry-turn (at-loop .loop .out) (at-loop .loop .i) _ (at-loop .loop .c) (at-loop .loop .v) _ (at-loop-test
-          .loop-test .taken) (c .character .ensures) ∙ at-loop .loop .inv .1,
-      rw length-set (at-loop .loop .inv .2),
+    let at-loop = c .before .before in
+    let at-start = at-loop .before .before in
+    let inv = at-loop .loop .inv in
+    let here : at-loop .loop .here < at-start .args .at + at-start .args .l = c .before .loop-test .taken in (
+      omega (arith, inv .0),
+      omega (arith, here),
+      stands-turn (inv .2) (omega (arith, at-start .pre)) (omega (arith, inv .0)) (omega (arith, inv .0))
+          (c .character .ensures ∙ character-at (at-start .args .l) (at-loop .loop .here - at-start .args .at) _
+          (omega (arith, inv .0))),
     )
 
 slice-write-out-2 : tie.Need-slice-write-out-2 Inv-loop μ-loop
 slice-write-out-2 c =
     let at-loop = c .before in
-    let at-start = at-loop .before .before in
-    omega (arith, at-start .pre, at-loop .loop .inv .2)
+    omega (arith, at-loop .before .before .pre, at-loop .loop .inv .2 .long)
 
 same-length : tie.Need-same-length Inv-loop μ-loop
-same-length c = rw length-set (c .before .loop .inv .2)
+same-length c =
+    let at-loop = c .before in
+    length-set (at-loop .loop .out) _ _ ∙ at-loop .loop .inv .2 .long
 
 returns : tie.Need-returns Inv-loop μ-loop
 returns c =
     let at-loop = c .before in
-    entry-end (at-loop .loop .out) (at-loop .loop .i) _ (at-loop .loop .c) (at-loop .loop .v) (omega
-    (arith, c .loop-test .left, at-loop .loop .inv .0)) ∙ at-loop .loop .inv .1
+    let at-start = at-loop .before .before in
+    let inv = at-loop .loop .inv in
+    let e : Entry = record { care = at-start .args .care; value = at-start .args .value } in
+    let whole : at-loop .loop .here - at-start .args .at ≡ at-start .args .l =
+    omega (arith, inv .0, inv .1, c .loop-test .left) in
+    let long = string-length (at-start .args .l) e in (
+      omega arith,
+      printed-end
+          (stands-turn (inv .2) (omega (arith, at-start .pre)) (omega (arith, whole)) (omega (arith, whole, long))
+          (newline-at (at-start .args .l) e
+          ∙ ap (λ (k : ℕ). getD (entry-text (string (at-start .args .l) e)) k 0) (sym whole))),
+    )
 
 pub write-entry-spec : {M : Type 1} → statement M
 write-entry-spec = tie.close
-    (tie.spec Inv-loop μ-loop add-end loop-holds character-requires slice-write-out add-i loop-less loop-again
-    slice-write-out-2 same-length returns)
+    (tie.spec Inv-loop μ-loop add-end add-after loop-holds add-next sub-i cast-i shr-character shr-character-2
+    character-requires slice-write-out loop-less loop-again slice-write-out-2 same-length returns)
