@@ -109,16 +109,16 @@ fn write_entry(out: &mut [u8], at: usize, l: u32, care: u32, value: u32) -> usiz
         Printed (string l (record { care = care; value = value })) at (now (out .entry)) (now (out .exit))
         ⌝ }
 {
-    let end = at + l as usize;
-    let after = end + 1;
+    let last = at + l as usize;
+    let after = last + 1;
     let mut here = at;
-    while here < end {
+    while here < last {
         let next = here + 1;
         let i = (here - at) as u32;
         out[here] = character((care >> i) % 2, (value >> i) % 2);
         here = next;
     }
-    out[end] = b'\n';
+    out[last] = b'\n';
     after
 }
 

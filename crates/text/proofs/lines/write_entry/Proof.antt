@@ -14,15 +14,15 @@ use Rattle.text.proofs.lines.write_entry.Statement.{statement}
 use Rattle.text.proofs.lines.write_entry.Tie as tie
 
 abbrev Inv-loop : tie.InvT-loop
-Inv-loop out₀ at l care value end after here₀ out here =
-    (at ≤ here) × (here ≤ end)
+Inv-loop out₀ at l care value last after here₀ out here =
+    (at ≤ here) × (here ≤ last)
     × Stands (entry-text (string l (record { care = care; value = value }))) at out₀ out (here - at)
 
 abbrev μ-loop : tie.MeasureT-loop
-μ-loop out₀ at l care value end after here₀ out here = end - here
+μ-loop out₀ at l care value last after here₀ out here = last - here
 
-add-end : tie.Need-add-end Inv-loop μ-loop
-add-end c = search needs
+add-last : tie.Need-add-last Inv-loop μ-loop
+add-last c = search needs
 
 add-after : tie.Need-add-after Inv-loop μ-loop
 add-after c = search needs
@@ -101,5 +101,5 @@ returns c =
 
 pub write-entry-spec : {M : Type 1} → statement M
 write-entry-spec = tie.close
-    (tie.spec Inv-loop μ-loop add-end add-after loop-holds add-next sub-i cast-i shr-character shr-character-2
+    (tie.spec Inv-loop μ-loop add-last add-after loop-holds add-next sub-i cast-i shr-character shr-character-2
     character-requires slice-write-out loop-less loop-again slice-write-out-2 same-length returns)
