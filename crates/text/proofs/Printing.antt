@@ -133,6 +133,7 @@ stands-set text {at} {before} {after} w room =
 
 -- ---- An entry in an output
 
+-- where all of its text stands, an entry is printed
 pub printed-end : {s : Trits} {at : ℕ} {before after : List ℕ} → Stands (entry-text s) at before after (length s + 1)
     → Printed s at before after
 printed-end {s} w = record {

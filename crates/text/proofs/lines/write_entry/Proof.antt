@@ -79,9 +79,7 @@ slice-write-out-2 c =
     omega (arith, at-loop .before .before .pre, at-loop .loop .inv .2 .long)
 
 same-length : tie.Need-same-length Inv-loop μ-loop
-same-length c =
-    let at-loop = c .before in
-    length-set (at-loop .loop .out) _ _ ∙ at-loop .loop .inv .2 .long
+same-length c = simp (length-set, c .before .loop .inv .2 .long)
 
 returns : tie.Need-returns Inv-loop μ-loop
 returns c =
