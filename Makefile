@@ -1,4 +1,4 @@
-# make run       the program sharerun on the example, from a readable file to readable tables
+# make run       the program sharerun on the example, from a readable file to readable tables; with FILE=examples/... on that file
 # make test      the gate: every proof and must-fail edit, then every test of what was proved
 # make calls     compares every exported call with plain Rust, then again with its buffers between protected pages
 # make runs      sharerun on stored cases and against plain Rust
@@ -24,8 +24,9 @@ VERSION := $(shell sed -n 's/^.define SHARING_VERSION_M[A-Z]* \([0-9]*\)$$/\1./p
 PREFIX ?= /usr/local
 INTO := $(DESTDIR)$(abspath $(PREFIX))
 
+FILE := examples/parish.txt
 run: $(PROGRAM) target/tools/sharetext
-	@tools/show examples/parish.txt
+	@tools/show "$(FILE)"
 
 test:
 	@tests/all

@@ -56,7 +56,7 @@ static int name_arguments(const goal *g, form *table, uint32_t *variables) {
         variables[j] = g->arguments[j].variable;
         if (variables[j] != 0 || g->arguments[j].set == 0)
             continue;
-        if (width(table) == SHARING_MAX_VARIABLES)
+        if (width(table) == MAX_VARIABLES)
             return 0;
         add_free(table);
         variables[j] = width(table);
@@ -86,12 +86,12 @@ static int merge(form *sum, const goal *g, form *table, uint32_t *variables) {
 
 /* The table at the start of a clause: head variables as they are called, the others free. */
 static void start(const clause *c, form *table) {
-    uint32_t from[16] = {0}, term_of[16] = {0}, l = c->l, n = 0;
-    sharing_entry alone[16];
+    uint32_t from[MAX_VARIABLES] = {0}, term_of[MAX_VARIABLES] = {0}, l = c->l, n = 0;
+    sharing_entry alone[MAX_VARIABLES];
     for (uint32_t j = 0; j < c->head.arity; j++) {
         uint32_t x = c->head.arguments[j].variable;
         if (x == 0 || from[x - 1] != 0) {
-            if (l == SHARING_MAX_VARIABLES) {
+            if (l == MAX_VARIABLES) {
                 STEP(table, c->l, sharing_all_star(c->l, OUT));
                 return;
             }
@@ -125,7 +125,7 @@ static void after_equation(const goal *g, form *table) {
         equate(table, left.variable, right.set);
     else if (right.variable != 0)
         equate(table, right.variable, left.set);
-    else if (l == SHARING_MAX_VARIABLES)
+    else if (l == MAX_VARIABLES)
         STEP(table, l, sharing_unknown_goal(TABLE(table), g->set, OUT));
     else {
         add_free(table);
@@ -137,7 +137,7 @@ static void after_equation(const goal *g, form *table) {
 
 /* The table after a goal. The call is added to those of its predicate. */
 static void after_goal(const goal *g, form *table) {
-    uint32_t variables[16], l = width(table);
+    uint32_t variables[MAX_VARIABLES], l = width(table);
     form wider = *table;
     if (g->p == NULL) {
         after_equation(g, table);
@@ -191,7 +191,7 @@ static void print_point(const clause *c, int i, const form *table) {
 
 /* Follows a clause from its start to its end; with `print` says what may run side by side. */
 static void follow(const clause *c, int print) {
-    uint32_t variables[16];
+    uint32_t variables[MAX_VARIABLES];
     form table;
     start(c, &table);
     for (int i = 0; i < c->goals; i++) {

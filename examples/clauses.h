@@ -12,7 +12,7 @@
 #include <stdlib.h>
 
 enum { MAX_TEXT = 1 << 16, MAX_CLAUSES = 256, MAX_GOALS = 16, MAX_NAMES = 512 };
-enum { MAX_DEPTH = 256 };
+enum { MAX_DEPTH = 256, MAX_VARIABLES = SHARING_MAX_VARIABLES };
 
 #define NAME_LETTERS "abcdefghijklmnopqrstuvwxyzABCDEFGHIJKLMNOPQRSTUVWXYZ0123456789_"
 
@@ -20,9 +20,18 @@ typedef struct { const char *at; size_t len; } slice;
 typedef struct { uint32_t set, variable; } argument; /* variable is 0 where it is a term */
 typedef struct { uint8_t bytes[SHARING_MAX_FORM]; } form;
 typedef struct { slice name; uint32_t arity; int defined, called; form call, exit; } predicate;
-typedef struct { slice name, text; uint32_t arity, set; argument arguments[16]; predicate *p; }
-    goal;
-typedef struct { goal head, body[MAX_GOALS]; int goals; uint32_t l; slice names[16]; } clause;
+typedef struct {
+    slice name, text;
+    uint32_t arity, set;
+    argument arguments[MAX_VARIABLES];
+    predicate *p;
+} goal;
+typedef struct {
+    goal head, body[MAX_GOALS];
+    int goals;
+    uint32_t l;
+    slice names[MAX_VARIABLES];
+} clause;
 
 static char text[MAX_TEXT + 1];
 static const char *file, *at = text, *taken; /* taken: the end of the last piece */
@@ -85,8 +94,8 @@ static uint32_t variable_number(clause *c) {
     for (uint32_t i = 0; i < c->l; i++)
         if (same(c->names[i], read) && (read.len > 1 || *read.at != '_'))
             return i + 1;
-    if (c->l == SHARING_MAX_VARIABLES)
-        fail(read.at, "the clause has more than 16 variables");
+    if (c->l == MAX_VARIABLES)
+        fail(read.at, "the clause has more than 32 variables");
     c->names[c->l++] = read;
     return c->l;
 }
@@ -123,8 +132,8 @@ static argument term(clause *c, goal *g) {
     else
         fail(at, "a term is expected here");
     while (close != NULL) {
-        if (g != NULL && g->arity == SHARING_MAX_VARIABLES)
-            fail(at, "more than 16 arguments");
+        if (g != NULL && g->arity == MAX_VARIABLES)
+            fail(at, "more than 32 arguments");
         argument inner = term(c, NULL);
         read.set |= inner.set;
         if (g != NULL)

@@ -4,32 +4,34 @@
  * installed as share/doc/sharing/COMPILER.md, has recipes for a compiler of clauses.
  *
  * Tables
- *   A table speaks of the program variables X1 to Xl, l from 1 to 16, and has 0 to 256 entries in
+ *   A table speaks of the program variables X1 to Xl, l from 1 to 32, and has 0 to 256 entries in
  *   order. An entry is a string of l positions, each 0, 1 or * (either). A group is a string of 0
  *   and 1 with at least one 1. A positive table stands for the groups that some entry covers, a
- *   negative table for the groups that no entry covers. A set of variables is a word: bit i - 1
- *   is for Xi.
+ *   negative table for the groups that no entry covers. A set of variables is a word of 32 bits:
+ *   bit i - 1 is for Xi.
  *
  * The form of a table
- *   16-bit numbers, low byte first: l, n, then n care words, then n value words; 4 + 4n bytes. Bit
- *   i - 1 of a word is for position i. Care is 1 where the position is fixed, value is the digit
- *   there, and value is 0 where care is 0. The form does not say its side: the caller does.
+ *   Numbers, low byte first: l and n, 16 bits each, then n care words, then n value words. These
+ *   words have 16 bits where l is 1 to 16 and 32 bits where l is 17 to 32, so that the form has
+ *   4 + 4n or 4 + 8n bytes. Bit i - 1 of a word is for position i. Care is 1 where the position is
+ *   fixed, value is the digit there, and value is 0 where care is 0. The form does not say its
+ *   side: the caller does.
  *   Reading grows the table entry by entry, as every call grows its lists: an all-zero entry is
  *   dropped; any other is widened (a fixed position becomes a star where one entry covers all that
  *   the entry with that digit flipped covers, while more than one position is fixed), then dropped
  *   if one entry covers all of it, else appended in place of those that it covers. The groups are
  *   the same; the entries and their order may not be. What a call wrote reads back as it stands,
  *   unless the caller changed the table in a sharing_running by hand.
- *   A length that is given with a table is that of the form, 4 + 4n, not that of the buffer it
- *   stands in: more bytes than the sizes give are refused 1, as fewer are. The length of what a
- *   call wrote follows from its n (sharing_front_length in sharing_util.h). Only sharing_smaller
- *   looks at the front of a longer buffer.
+ *   A length that is given with a table is that of the form, 4 + 4n or 4 + 8n, not that of the
+ *   buffer it stands in: more bytes than the sizes give are refused 1, as fewer are. The length of
+ *   what a call wrote follows from its l and n (sharing_front_length in sharing_util.h). Only
+ *   sharing_smaller looks at the front of a longer buffer.
  *
  *   TABLE FORM below stands for these refusals, in this order:
  *     1   fewer than 4 bytes
- *     2   l is not 1 to 16
+ *     2   l is not 1 to 32
  *     3   n is above 256
- *     1   the length is not 4 + 4n bytes
+ *     1   the length is not 4 + 4n bytes for l up to 16, 4 + 8n bytes from 17 on
  *     4   entry by entry: a bit above l, or a value bit where care is 0
  *
  * The packed form of a table
@@ -43,7 +45,7 @@
  *
  *   PACKED FORM below stands for these refusals, in this order:
  *     1   fewer than 4 bytes
- *     2   l is not 1 to 16
+ *     2   l is not 1 to 32
  *     3   n is above 256
  *     1   the length is not 4 + n * ((l + 4) / 5) bytes
  *     12  entry by entry, byte by byte: a byte of 243 or more, or an unused digit that is not 0
@@ -127,7 +129,7 @@
 
 /* The version, which stands here and nowhere else, as numbers and as text. */
 #define SHARING_VERSION_MAJOR 0
-#define SHARING_VERSION_MINOR 4
+#define SHARING_VERSION_MINOR 5
 #define SHARING_VERSION_PATCH 0
 #define SHARING_VERSION                                                                            \
     SHARING_QUOTED(SHARING_VERSION_MAJOR)                                                          \
@@ -152,7 +154,7 @@ extern "C" {
 enum {
     SHARING_ACCEPTED = 0,
     SHARING_TORN = 1,    /* the length is not what the sizes give */
-    SHARING_WIDTH = 2,   /* l is not 1 to 16 */
+    SHARING_WIDTH = 2,   /* l is not 1 to 32 */
     SHARING_ENTRIES = 3, /* more than 256 entries */
     SHARING_STRAY = 4,   /* a bit above l, or a value without care */
     SHARING_NAME = 5,    /* a variable that is not 1 to l */
@@ -167,18 +169,19 @@ enum {
 
 /* The limits. */
 enum {
-    SHARING_MAX_VARIABLES = 16,
+    SHARING_MAX_VARIABLES = 32,
     SHARING_MAX_ENTRIES = 256,
     SHARING_MAX_EQUATIONS = 64,
     SHARING_MAX_TOKENS = 1024,
-    SHARING_MAX_FORM = 1028,  /* bytes in the form of a table with 256 entries */
-    SHARING_MAX_PACKED = 1028 /* bytes in the packed form of one with 256 entries of 16 variables */
+    SHARING_MAX_FORM = 2052,  /* bytes in the form of a table with 256 entries of 32 variables */
+    SHARING_MAX_PACKED = 1796 /* bytes in the packed form of such a table */
 };
 
 /* The sides. */
 enum { SHARING_POSITIVE = 0, SHARING_NEGATIVE = 1 };
 
-/* A table as a value: l variables, n entries, and zeros past the count. */
+/* A table as a value: l variables, n entries, and zeros past the count. Its words have 32 bits,
+ * whatever l is. */
 typedef struct {
     uint32_t l;
     size_t n;
@@ -231,7 +234,7 @@ uint32_t sharing_unpack(const uint8_t *packed, size_t packed_len, uint8_t *out, 
  * Converts groups to a positive table of l variables.
  * Reads groups: any number of words, each a set of variables; a zero word is skipped. groups_len
  * counts words. Writes the form to out.
- * Refusals in order: 2 where l is not 1 to 16; 4 where any word has a bit above l; 8; 9.
+ * Refusals in order: 2 where l is not 1 to 32; 4 where any word has a bit above l; 8; 9.
  * After a refusal: out is as it was.
  */
 SHARING_MUST_USE
@@ -382,7 +385,7 @@ sharing_running sharing_start(uint32_t side, const uint8_t *table, size_t table_
  * One more equation of a running analysis, "variable = term".
  * Reads *state and term. Writes *state: its table after the equation, `applied` one more, and
  * `code` 0.
- * Refusals in order, of the table in *state: 2 where l is not 1 to 16; 3 where n is above 256; 4
+ * Refusals in order, of the table in *state: 2 where l is not 1 to 32; 3 where n is above 256; 4
  * where an entry has a bit above l or a value bit where care is 0, or an entry past n is not
  * zero; then TERM; 8.
  * After a refusal: the whole of *state is as it was, `code` too; the number is only returned.

@@ -27,7 +27,7 @@ typedef struct {
     uint32_t value;
 } sharing_entry;
 
-/* ---- 16-bit numbers, sets and tokens */
+/* ---- Numbers, sets and tokens */
 
 /* The number at a place, counted from 0, of a row of 16-bit numbers, low byte first. */
 static inline uint32_t sharing_word_at(const uint8_t *row, size_t place) {
@@ -40,9 +40,9 @@ static inline void sharing_put_word(uint8_t *row, size_t place, uint32_t word) {
     row[2 * place + 1] = (uint8_t)(word >> 8 & 0xff);
 }
 
-/* The set of the variables X1 to Xl, where l is at most 16. */
+/* The set of the variables X1 to Xl, where l is at most 32. */
 static inline uint32_t sharing_variables(uint32_t l) {
-    return ((uint32_t)1 << l) - 1;
+    return (uint32_t)(((uint64_t)1 << l) - 1);
 }
 
 /* The token of a head: arity 0 to 15, symbol 0 to 2047. Higher bits of both are cut off. */
@@ -52,9 +52,35 @@ static inline uint32_t sharing_head(uint32_t symbol, uint32_t arity) {
 
 /* ---- Forms and entries */
 
-/* The length in bytes of a form of n entries; 0 where n is above 256. */
-static inline size_t sharing_form_length(size_t n) {
-    return n > SHARING_MAX_ENTRIES ? 0 : 4 + 4 * n;
+/* The length in bytes of a care or value word in a form of l variables. */
+static inline size_t sharing_word_length(uint32_t l) {
+    return l <= 16 ? 2 : 4;
+}
+
+/* The length in bytes of a form; 0 where l is not 1 to 32 or n is above 256. */
+static inline size_t sharing_form_length(uint32_t l, size_t n) {
+    if (l < 1 || l > SHARING_MAX_VARIABLES || n > SHARING_MAX_ENTRIES)
+        return 0;
+    return 4 + 2 * n * sharing_word_length(l);
+}
+
+/*
+ * A care or value word of a form that was checked, or whose length was: its care words have the
+ * places 0 to n - 1, its value words n to 2n - 1.
+ */
+static inline uint32_t sharing_entry_word(const uint8_t *form, size_t place) {
+    size_t length = sharing_word_length(sharing_word_at(form, 0));
+    uint32_t word = 0;
+    for (size_t i = 0; i < length; i++)
+        word |= (uint32_t)form[4 + length * place + i] << 8 * i;
+    return word;
+}
+
+/* Writes a word, of which the bits that fit count, at such a place of a form that has its l. */
+static inline void sharing_put_entry_word(uint8_t *form, size_t place, uint32_t word) {
+    size_t length = sharing_word_length(sharing_word_at(form, 0));
+    for (size_t i = 0; i < length; i++)
+        form[4 + length * place + i] = (uint8_t)(word >> 8 * i & 0xff);
 }
 
 /* The TABLE FORM refusal of a form, or 0. */
@@ -67,11 +93,10 @@ static inline uint32_t sharing_check(const uint8_t *form, size_t form_len) {
         return SHARING_WIDTH;
     if (n > SHARING_MAX_ENTRIES)
         return SHARING_ENTRIES;
-    if (form_len != sharing_form_length(n))
+    if (form_len != sharing_form_length(l, n))
         return SHARING_TORN;
-    n = (uint32_t)(form_len / 4 - 1); /* the same number, which the compiler can see */
     for (size_t i = 0; i < n; i++) {
-        uint32_t care = sharing_word_at(form, 2 + i), value = sharing_word_at(form, 2 + n + i);
+        uint32_t care = sharing_entry_word(form, i), value = sharing_entry_word(form, n + i);
         if ((care & ~sharing_variables(l)) != 0 || (value & ~care) != 0)
             return SHARING_STRAY;
     }
@@ -83,13 +108,15 @@ static inline uint32_t sharing_check(const uint8_t *form, size_t form_len) {
  * After a call wrote to a buffer this is the length of what it wrote.
  */
 static inline size_t sharing_front_length(const uint8_t *buffer, size_t buffer_len) {
-    size_t length = buffer_len < 4 ? 0 : sharing_form_length(sharing_word_at(buffer, 1));
+    if (buffer_len < 4)
+        return 0;
+    size_t length = sharing_form_length(sharing_word_at(buffer, 0), sharing_word_at(buffer, 1));
     if (length == 0 || length > buffer_len)
         return 0;
     return sharing_check(buffer, length) == SHARING_ACCEPTED ? length : 0;
 }
 
-/* The length in bytes of a packed form; 0 where l is not 1 to 16 or n is above 256. */
+/* The length in bytes of a packed form; 0 where l is not 1 to 32 or n is above 256. */
 static inline size_t sharing_packed_length(uint32_t l, size_t n) {
     if (l < 1 || l > SHARING_MAX_VARIABLES || n > SHARING_MAX_ENTRIES)
         return 0;
@@ -125,13 +152,13 @@ static inline uint32_t sharing_make_form(uint32_t l, const sharing_entry *entrie
         if ((entries[i].care & ~sharing_variables(l)) != 0 ||
             (entries[i].value & ~entries[i].care) != 0)
             return SHARING_STRAY;
-    if (out_len < sharing_form_length(n))
+    if (out_len < sharing_form_length(l, n))
         return SHARING_NARROW;
     sharing_put_word(out, 0, l);
     sharing_put_word(out, 1, (uint32_t)n);
     for (size_t i = 0; i < n; i++) {
-        sharing_put_word(out, 2 + i, entries[i].care);
-        sharing_put_word(out, 2 + n + i, entries[i].value);
+        sharing_put_entry_word(out, i, entries[i].care);
+        sharing_put_entry_word(out, n + i, entries[i].value);
     }
     return SHARING_ACCEPTED;
 }
@@ -139,8 +166,8 @@ static inline uint32_t sharing_make_form(uint32_t l, const sharing_entry *entrie
 /* Entry i of a form that was checked: the functions below use it. */
 static inline sharing_entry sharing_entry_in(const uint8_t *form, size_t i) {
     sharing_entry entry;
-    entry.care = sharing_word_at(form, 2 + i);
-    entry.value = sharing_word_at(form, 2 + sharing_word_at(form, 1) + i);
+    entry.care = sharing_entry_word(form, i);
+    entry.value = sharing_entry_word(form, sharing_word_at(form, 1) + i);
     return entry;
 }
 
@@ -180,7 +207,7 @@ static inline uint32_t sharing_entry_text(uint32_t l, sharing_entry entry, char 
 
 /*
  * Reads an entry from text_len characters, position 1 first; its l is text_len.
- * Refusals in order: 2 where text_len is not 1 to 16; 4 where a character is none of 0, 1 and *.
+ * Refusals in order: 2 where text_len is not 1 to 32; 4 where a character is none of 0, 1 and *.
  */
 SHARING_MUST_USE
 static inline uint32_t sharing_text_entry(const char *text, size_t text_len, sharing_entry *entry) {
@@ -197,7 +224,7 @@ static inline uint32_t sharing_text_entry(const char *text, size_t text_len, sha
     return SHARING_ACCEPTED;
 }
 
-/* ---- Forms to begin with. Refusals in order, of each: 2 where l is not 1 to 16; 9. */
+/* ---- Forms to begin with. Refusals in order, of each: 2 where l is not 1 to 32; 9. */
 
 /* One entry of stars. As a positive table: all groups. As a negative table it has no group. */
 SHARING_MUST_USE
@@ -249,7 +276,7 @@ static inline const char *sharing_refusal_sentence(uint32_t code) {
     static const char *const sentences[] = {
         "the call was accepted",
         "the length is not what the sizes give",
-        "l is not 1 to 16",
+        "l is not 1 to 32",
         "more than 256 entries",
         "a bit above l, or a value without care",
         "a variable that is not 1 to l",
@@ -442,7 +469,7 @@ static inline size_t sharing_rename_negative(const uint8_t *table, const uint32_
  * negative entry has stars at known positions; after the entries follow, for positions j rising,
  * the string with 1 at j where j is known, and the one with 1 at j and 0 at the next position of
  * the same old variable (after the last the first) where there is another; stars elsewhere.
- * Refusals in order: TABLE FORM; 2 where from_len is not 1 to 16; 5 where a number in from is above
+ * Refusals in order: TABLE FORM; 2 where from_len is not 1 to 32; 5 where a number in from is above
  * l; 11 where no position takes some old variable (that is a projection: sharing_select); 8 where
  * this list has more than 256 entries; 9.
  */
@@ -475,7 +502,7 @@ static inline uint32_t sharing_rename(uint32_t side, const uint8_t *table, size_
  * The table as some variables see it: the projection onto the variables in from, then renamed so
  * that new variable Xj stands for the old one from[j - 1], or is known where that is 0. A variable
  * may be named twice. This takes a caller's table to the arguments of a goal.
- * Refusals in order: TABLE FORM; 2 where from_len is not 1 to 16; 5 where a number in from is above
+ * Refusals in order: TABLE FORM; 2 where from_len is not 1 to 32; 5 where a number in from is above
  * l; 11 where from has only zeros; 8 of sharing_project, then of sharing_rename; 9.
  */
 SHARING_MUST_USE
@@ -510,7 +537,7 @@ static inline uint32_t sharing_select(uint32_t side, const uint8_t *table, size_
 
 /*
  * Adds `more` free variables after Xl, each a group of its own; the other groups stay as they are.
- * Refusals in order: TABLE FORM; 2 where l + more is above 16; 8 where n + more is above 256; 9.
+ * Refusals in order: TABLE FORM; 2 where l + more is above 32; 8 where n + more is above 256; 9.
  */
 SHARING_MUST_USE
 static inline uint32_t sharing_add_free(const uint8_t *table, size_t table_len, uint32_t more,
@@ -542,13 +569,10 @@ enum { SHARING_SET_TERM = 2 * (2 * SHARING_MAX_VARIABLES + 1) };
 /*
  * Writes a term that has exactly the variables of a set, for sharing_equation and sharing_step: the
  * table after an equation depends on nothing else of the term. term has SHARING_SET_TERM bytes.
- * Returns the length of what was written; 0, which those calls refuse 6, where the set has a bit
- * above 16.
+ * Returns the length of what was written.
  */
 static inline size_t sharing_set_term(uint32_t variables, uint8_t *term) {
     size_t tokens = 0;
-    if ((variables & ~sharing_variables(SHARING_MAX_VARIABLES)) != 0)
-        return 0;
     for (uint32_t x = 1; x <= SHARING_MAX_VARIABLES; x++)
         if (variables >> (x - 1) & 1) {
             sharing_put_word(term, tokens++, sharing_head(0, 2));

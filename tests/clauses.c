@@ -9,7 +9,7 @@
 #include "../examples/clauses.c"
 #undef main
 
-enum { PROGRAMS = 500, RUNS = 40, DEEPEST = 10, CELLS = 1 << 14, VARIABLES = 16 };
+enum { PROGRAMS = 500, RUNS = 40, DEEPEST = 10, CELLS = 1 << 14, VARIABLES = SHARING_MAX_VARIABLES };
 enum { PREDICATES = 4, MOST_CLAUSES = 3, MOST_GOALS = 4, MOST_ARITY = 3 };
 
 /* A term of a program: variable `id` where n is -1, else symbol `id` with n arguments. */

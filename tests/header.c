@@ -16,11 +16,12 @@ CHECK(answers, SHARING_ACCEPTED == 0 && SHARING_TORN == 1 && SHARING_WIDTH == 2 
                    SHARING_TERM == 6 && SHARING_LONG == 7 && SHARING_FULL == 8 &&
                    SHARING_NARROW == 9 && SHARING_UNLIKE == 10 && SHARING_KEEP == 11 &&
                    SHARING_DIGIT == 12);
-CHECK(limits, SHARING_MAX_VARIABLES == 16 && SHARING_MAX_ENTRIES == 256 &&
+CHECK(limits, SHARING_MAX_VARIABLES == 32 && SHARING_MAX_ENTRIES == 256 &&
                   SHARING_MAX_EQUATIONS == 64 && SHARING_MAX_TOKENS == 1024);
-CHECK(longest_form, SHARING_MAX_FORM == 4 + 4 * SHARING_MAX_ENTRIES);
+CHECK(longest_form, SHARING_MAX_FORM == 2052 && SHARING_MAX_FORM == 4 + 8 * SHARING_MAX_ENTRIES);
 CHECK(longest_packed,
-      SHARING_MAX_PACKED == 4 + (SHARING_MAX_VARIABLES + 4) / 5 * SHARING_MAX_ENTRIES &&
+      SHARING_MAX_PACKED == 1796 &&
+          SHARING_MAX_PACKED == 4 + (SHARING_MAX_VARIABLES + 4) / 5 * SHARING_MAX_ENTRIES &&
           (int)SHARING_MAX_PACKED <= (int)SHARING_MAX_FORM);
 CHECK(sides, SHARING_POSITIVE == 0 && SHARING_NEGATIVE != 0);
 CHECK(table_layout, offsetof(sharing_table, n) == 8 && offsetof(sharing_table, care) == 16 &&
@@ -73,16 +74,24 @@ static int version_agrees(void) {
     return strcmp(due, SHARING_VERSION) == 0;
 }
 
+/* Does the state that is made of a form have these l, care and value, and zeros past its entry? */
+static int starts_as(in form, size_t form_len, word l, word care, word value) {
+    sharing_running state = calls.start(7, form, form_len);
+    int agree = state.code == SHARING_ACCEPTED && state.side == 7 && state.applied == 0 &&
+                state.table.l == l && state.table.n == 1 && state.table.care[0] == care &&
+                state.table.value[0] == value;
+    for (size_t i = 1; i < SHARING_MAX_ENTRIES; i++)
+        agree = agree && state.table.care[i] == 0 && state.table.value[i] == 0;
+    return agree;
+}
+
 int main(int count, char **words) {
     if (count > 1 && strcmp(words[1], "version") == 0)
         return puts(SHARING_VERSION) < 0;
-    /* Three variables and the entry 01*. */
-    const uint8_t form[] = {3, 0, 1, 0, 3, 0, 2, 0};
-    sharing_running state = calls.start(7, form, sizeof form);
-    int agree = state.code == SHARING_ACCEPTED && state.side == 7 && state.applied == 0 &&
-                state.table.l == 3 && state.table.n == 1 && state.table.care[0] == 3 &&
-                state.table.value[0] == 2;
-    for (size_t i = 1; i < SHARING_MAX_ENTRIES; i++)
-        agree = agree && state.table.care[i] == 0 && state.table.value[i] == 0;
+    /* Three variables and the entry 01*; 32 variables, with words of 32 bits in the form. */
+    const uint8_t narrow[] = {3, 0, 1, 0, 3, 0, 2, 0};
+    const uint8_t wide[] = {32, 0, 1, 0, 3, 0, 1, 0x80, 2, 0, 0, 0x80};
+    int agree = starts_as(narrow, sizeof narrow, 3, 3, 2) &&
+                starts_as(wide, sizeof wide, 32, 0x80010003u, 0x80000002u);
     return agree && version_agrees() ? 0 : 1;
 }

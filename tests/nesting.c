@@ -19,7 +19,7 @@ static uint8_t table[SHARING_MAX_FORM], other[SHARING_MAX_FORM], out[SHARING_MAX
 static uint8_t term[2 * SHARING_MAX_TOKENS], equations[8 + 2 * SHARING_MAX_TOKENS];
 static uint8_t packed[SHARING_MAX_PACKED];
 static size_t table_len, packed_len, term_len, left_len; /* the left term is the first part of two */
-static uint32_t side, code, answer;
+static uint32_t side, code, answer, l, words[SHARING_MAX_VARIABLES]; /* the words are 1 to l */
 static sharing_running state;
 static int number;
 
@@ -32,9 +32,9 @@ enum { SELECT = WITHOUT_TERM, UNKNOWN, KNOWN, CALLS };
 
 /* The call by its number. */
 static void *call(void *unused) {
-    static const uint32_t words[] = {1, 2, 3, 4, 5, 6, 7, 8, 9, 10, 11, 12, 13, 14, 15, 16};
     const uint8_t *t = table, *right = term + left_len;
     size_t n = table_len, o = sizeof out, right_len = term_len - left_len;
+    uint32_t all = sharing_variables(l);
     switch (number) {
     case EQUATION: code = sharing_equation(side, t, n, 1, term, term_len, out, o); break;
     case RUN: state = sharing_run(side, t, n, equations, 8 + term_len); code = state.code; break;
@@ -50,18 +50,20 @@ static void *call(void *unused) {
     case READ: code = sharing_read(t, n, out, o); break;
     case PACK: code = sharing_pack(t, n, out, o); break;
     case UNPACK: code = sharing_unpack(packed, packed_len, out, o); break;
-    case CONVERT: code = sharing_convert(16, words, 16, out, o); break;
+    case CONVERT: code = sharing_convert(l, words, l, out, o); break;
     case SIDES: code = sharing_change_side(side, t, n, out, o); break;
     case JOIN: code = sharing_join(side, t, n, t, n, out, o); break;
     case PROJECT: code = sharing_project(side, t, n, 3, out, o); break;
     case EQUAL: code = sharing_equal(t, n, t, n, &answer); break;
     case GROUND: code = sharing_ground(side, t, n, 1, &answer); break;
-    case INDEPENDENT: code = sharing_independent(side, t, n, 0x5555, 0xaaaa, &answer); break;
+    case INDEPENDENT:
+        code = sharing_independent(side, t, n, 0x55555555 & all, 0xaaaaaaaa & all, &answer);
+        break;
     case START: state = sharing_start(side, t, n); code = state.code; break;
     case WRITE: code = sharing_write(&state, out, o); break;
-    case SELECT: code = sharing_select(side, t, n, words, 16, out, o); break;
-    case UNKNOWN: code = sharing_unknown_goal(t, n, 0xffff, out, o); break;
-    default: code = sharing_known_goal(t, n, other, n, words, 16, out, o); break;
+    case SELECT: code = sharing_select(side, t, n, words, l, out, o); break;
+    case UNKNOWN: code = sharing_unknown_goal(t, n, all, out, o); break;
+    default: code = sharing_known_goal(t, n, other, n, words, l, out, o); break;
     }
     return unused;
 }
@@ -145,12 +147,13 @@ static size_t most_without(unsigned char *stack, int first, int last) {
         uint32_t n = kind % 3 == 0 ? 256 : kind % 3 == 1 ? 16 : 1, next = 15;
         for (uint32_t i = 0; i < n; i++) {
             next = next * 1664525u + 1013904223u;
-            entries[i].care = (kind < 3 ? next >> 16 & next >> 8 : next >> 16 | next >> 8) & 0xffff;
-            entries[i].value = entries[i].care & next >> 12;
+            uint32_t one = next >> 16 | next << 16, two = next >> 8 | next << 24;
+            entries[i].care = (kind < 3 ? one & two : one | two) & sharing_variables(l);
+            entries[i].value = entries[i].care & (next >> 12 | next << 20);
         }
-        if (sharing_make_form(16, entries, n, table, sizeof table) != SHARING_ACCEPTED)
+        if (sharing_make_form(l, entries, n, table, sizeof table) != SHARING_ACCEPTED)
             exit(EXIT_FAILURE);
-        table_len = sharing_form_length(n);
+        table_len = sharing_form_length(l, n);
         memcpy(other, table, sizeof table);
         if (sharing_pack(table, table_len, packed, sizeof packed) != SHARING_ACCEPTED)
             exit(EXIT_FAILURE);
@@ -171,23 +174,33 @@ static int within(const char *what, size_t most, size_t said) {
     return most <= said * KIB;
 }
 
-int main(int count, char **words) {
-    unsigned char *stack = NULL;
-    int good = count > 2 && count % 2 == 0, i;
-    if (posix_memalign((void **)&stack, 4096, STACK) != 0 ||
-        sharing_all_star(16, table, sizeof table) != SHARING_ACCEPTED)
-        return EXIT_FAILURE;
-    table_len = sharing_form_length(1);
-    for (i = 1; i + 1 < count; i += 2) {
-        size_t tokens = (size_t)atoi(words[i]), said = (size_t)atoi(words[i + 1]);
-        char what[32];
-        sprintf(what, "%u tokens", (unsigned)tokens);
-        good = within(what, most_with_term(stack, tokens), said) && good;
+/* All calls on tables of one l. */
+static int check(unsigned char *stack, int count, char **said) {
+    int good = 1;
+    if (sharing_all_star(l, table, sizeof table) != SHARING_ACCEPTED)
+        return 0;
+    table_len = sharing_form_length(l, 1);
+    for (uint32_t i = 0; i < l; i++)
+        words[i] = i + 1;
+    for (int i = 1; i + 1 < count; i += 2) {
+        size_t tokens = (size_t)atoi(said[i]);
+        char what[48];
+        sprintf(what, "%u tokens, %u variables", (unsigned)tokens, (unsigned)l);
+        good = within(what, most_with_term(stack, tokens), (size_t)atoi(said[i + 1])) && good;
     }
-    good = good && within("other calls", most_without(stack, WITH_TERM, WITHOUT_TERM),
-                          (size_t)atoi(words[count - 1]));
-    good = good && within("goals", most_without(stack, WITHOUT_TERM, CALLS),
-                          (size_t)atoi(words[2]) + UTIL);
+    good = within("other calls", most_without(stack, WITH_TERM, WITHOUT_TERM),
+                  (size_t)atoi(said[count - 1])) && good;
+    return within("goals", most_without(stack, WITHOUT_TERM, CALLS),
+                  (size_t)atoi(said[2]) + UTIL) && good;
+}
+
+int main(int count, char **said) {
+    unsigned char *stack = NULL;
+    int good = count > 2 && count % 2 == 0;
+    if (posix_memalign((void **)&stack, 4096, STACK) != 0)
+        return EXIT_FAILURE;
+    for (l = 16; l <= SHARING_MAX_VARIABLES; l += 16)
+        good = check(stack, count, said) && good;
     free(stack);
     return good ? EXIT_SUCCESS : EXIT_FAILURE;
 }

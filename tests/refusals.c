@@ -9,7 +9,8 @@
 #include <stdlib.h>
 #include <string.h>
 
-#define WORD(w) (uint8_t)((w) & 0xff), (uint8_t)((w) >> 8)
+#define WORD(w) (uint8_t)((w) & 0xff), (uint8_t)((w) >> 8 & 0xff)
+#define WIDE(w) WORD(w), WORD((w) >> 16) /* a care or value word from l = 17 on */
 #define BYTES(buffer) (buffer), sizeof(buffer)
 #define COUNT(array) (sizeof(array) / sizeof((array)[0]))
 #define EXPECT(due, code) expect_at(__LINE__, due, code)
@@ -46,22 +47,37 @@ static void expect_at(int line, uint32_t due, uint32_t code) {
 static const uint8_t good[] = {WORD(3), WORD(3), WORD(7), WORD(3),
                                WORD(5), WORD(1), WORD(2), WORD(4)};
 static const uint8_t two_variables[] = {WORD(2), WORD(1), WORD(3), WORD(3)};
-static const uint8_t no_sizes[] = {WORD(17), 1};
-static const uint8_t width_17[] = {WORD(17), WORD(257), 1};
+static const uint8_t no_sizes[] = {WORD(33), 1};
+static const uint8_t width_33[] = {WORD(33), WORD(257), 1};
 static const uint8_t width_0[] = {WORD(0), WORD(257)};
+static const uint8_t width_most[] = {WORD(0xffff), WORD(257)};
 static const uint8_t entries_257[] = {WORD(1), WORD(257), WORD(2), WORD(2)};
+static const uint8_t wide_257[] = {WORD(32), WORD(257), WIDE(0u), 1};
 static const uint8_t too_short[] = {WORD(2), WORD(1), WORD(4), 0};
 static const uint8_t too_long[] = {WORD(2), WORD(1), WORD(4), WORD(0), 0};
 static const uint8_t above_l[] = {WORD(2), WORD(1), WORD(4), WORD(0)};
 static const uint8_t no_care[] = {WORD(2), WORD(1), WORD(1), WORD(2)};
+/* Words of the other width, and 32-bit words that are cut, loose or above l. */
+static const uint8_t narrow_17[] = {WORD(17), WORD(1), WORD(0), WORD(1)};
+static const uint8_t wide_16[] = {WORD(16), WORD(1), WIDE(0x10000u), WIDE(0u)};
+static const uint8_t cut_32[] = {WORD(32), WORD(1), WIDE(0u), 1, 0, 0};
+static const uint8_t long_32[] = {WORD(32), WORD(1), WIDE(0u), WIDE(1u), 0};
+static const uint8_t above_17[] = {WORD(17), WORD(1), WIDE(1u << 17), WIDE(0u)};
+static const uint8_t above_31[] = {WORD(31), WORD(1), WIDE(1u << 31), WIDE(0u)};
+static const uint8_t no_care_32[] = {WORD(32), WORD(1), WIDE(~0u >> 1), WIDE(1u << 31)};
 
 typedef struct { const uint8_t *bytes; size_t len; uint32_t due; } bad_form;
 
 static const bad_form bad_tables[] = {
-    {BYTES(no_sizes), SHARING_TORN},  {BYTES(width_17), SHARING_WIDTH},
-    {BYTES(width_0), SHARING_WIDTH},  {BYTES(entries_257), SHARING_ENTRIES},
-    {BYTES(too_short), SHARING_TORN}, {BYTES(too_long), SHARING_TORN},
-    {BYTES(above_l), SHARING_STRAY},  {BYTES(no_care), SHARING_STRAY}};
+    {BYTES(no_sizes), SHARING_TORN},    {BYTES(width_33), SHARING_WIDTH},
+    {BYTES(width_0), SHARING_WIDTH},    {BYTES(width_most), SHARING_WIDTH},
+    {BYTES(entries_257), SHARING_ENTRIES}, {BYTES(wide_257), SHARING_ENTRIES},
+    {BYTES(too_short), SHARING_TORN},   {BYTES(too_long), SHARING_TORN},
+    {BYTES(narrow_17), SHARING_TORN},   {BYTES(wide_16), SHARING_TORN},
+    {BYTES(cut_32), SHARING_TORN},      {BYTES(long_32), SHARING_TORN},
+    {BYTES(above_l), SHARING_STRAY},    {BYTES(no_care), SHARING_STRAY},
+    {BYTES(above_17), SHARING_STRAY},   {BYTES(above_31), SHARING_STRAY},
+    {BYTES(no_care_32), SHARING_STRAY}};
 
 /* Terms, for tables of three variables. */
 static uint8_t zeros[2 * SHARING_MAX_TOKENS + 3];
@@ -172,8 +188,14 @@ static void refuse_packed(void) {
     static const uint8_t byte_255[] = {WORD(6), WORD(1), 255, 0};
     static const uint8_t unused_1[] = {WORD(4), WORD(2), 81, 80};
     static const uint8_t unused_2[] = {WORD(6), WORD(1), 242, 6};
-    const bad_form bad[] = {{BYTES(no_sizes), SHARING_TORN},  {BYTES(width_17), SHARING_WIDTH},
+    static const uint8_t short_32[] = {WORD(32), WORD(1), 255, 0, 0, 0, 0, 0};
+    static const uint8_t unused_32[] = {WORD(32), WORD(1), 0, 0, 0, 0, 0, 0, 9};
+    static const uint8_t byte_32[] = {WORD(32), WORD(1), 0, 0, 0, 0, 0, 243, 1};
+    const bad_form bad[] = {{BYTES(no_sizes), SHARING_TORN},  {BYTES(width_33), SHARING_WIDTH},
                             {BYTES(width_0), SHARING_WIDTH},  {BYTES(entries_257), SHARING_ENTRIES},
+                            {BYTES(width_most), SHARING_WIDTH}, {BYTES(wide_257), SHARING_ENTRIES},
+                            {BYTES(short_32), SHARING_TORN},  {BYTES(unused_32), SHARING_DIGIT},
+                            {BYTES(byte_32), SHARING_DIGIT},
                             {BYTES(short_row), SHARING_TORN}, {BYTES(long_row), SHARING_TORN},
                             {BYTES(byte_243), SHARING_DIGIT}, {BYTES(byte_255), SHARING_DIGIT},
                             {BYTES(unused_1), SHARING_DIGIT}, {BYTES(unused_2), SHARING_DIGIT}};
@@ -318,7 +340,8 @@ static void refuse_rest(void) {
     const uint32_t words[] = {1, 8};
     const uint8_t all_ones[] = {WORD(3), WORD(1), WORD(7), WORD(7)};
     EXPECT(SHARING_WIDTH, sharing_convert(0, words, 2, out, 0));
-    EXPECT(SHARING_WIDTH, sharing_convert(17, words, 2, out, 0));
+    EXPECT(SHARING_WIDTH, sharing_convert(33, words, 2, out, 0));
+    EXPECT(SHARING_WIDTH, sharing_convert(UINT32_MAX, words, 2, out, 0));
     EXPECT(SHARING_STRAY, sharing_convert(3, words, 2, out, 0));
     EXPECT(SHARING_UNLIKE, sharing_join(0, BYTES(good), BYTES(two_variables), out, 0));
     EXPECT(SHARING_UNLIKE, sharing_equal(BYTES(good), BYTES(two_variables), &answer));
@@ -378,18 +401,24 @@ static void four_ones(uint32_t words[SHARING_MAX_ENTRIES + 1]) {
     }
 }
 
-/* Full, of calls that make lists longer; out is also too short, which would be 9. */
-static void refuse_full_lists(void) {
+/* Full, of calls that make lists longer; out is also too short, which would be 9. The groups are of
+ * the last 16 of l variables, and `bytes` is the length of a word in the form. */
+static void refuse_full_lists(uint32_t l, size_t bytes) {
     static uint8_t all[SHARING_MAX_FORM];
-    uint8_t one[8];
+    uint8_t one[12];
     uint32_t words[SHARING_MAX_ENTRIES + 1];
+    size_t all_len = 4 + 2 * bytes * SHARING_MAX_ENTRIES, one_len = 4 + 2 * bytes;
     four_ones(words);
-    EXPECT(SHARING_FULL, sharing_convert(16, words, SHARING_MAX_ENTRIES + 1, out, 0));
-    EXPECT(SHARING_ACCEPTED, sharing_convert(16, words, SHARING_MAX_ENTRIES, BYTES(all)));
-    EXPECT(SHARING_ACCEPTED, sharing_convert(16, words + SHARING_MAX_ENTRIES, 1, BYTES(one)));
-    EXPECT(SHARING_FULL, sharing_join(0, BYTES(all), BYTES(one), out, 0));
-    EXPECT(SHARING_FULL, sharing_change_side(0, BYTES(all), out, 0));
-    EXPECT(SHARING_FULL, sharing_project(1, BYTES(all), 1, out, 0));
+    for (size_t i = 0; i < COUNT(words); i++)
+        words[i] <<= l - 16;
+    EXPECT(SHARING_FULL, sharing_convert(l, words, SHARING_MAX_ENTRIES + 1, out, 0));
+    EXPECT(SHARING_NARROW, sharing_convert(l, words, SHARING_MAX_ENTRIES, out, all_len - 1));
+    EXPECT(SHARING_ACCEPTED, sharing_convert(l, words, SHARING_MAX_ENTRIES, all, all_len));
+    EXPECT(SHARING_ACCEPTED, sharing_convert(l, words + SHARING_MAX_ENTRIES, 1, one, one_len));
+    EXPECT(SHARING_ACCEPTED, sharing_read(all, all_len, out, all_len));
+    EXPECT(SHARING_FULL, sharing_join(0, all, all_len, one, one_len, out, 0));
+    EXPECT(SHARING_FULL, sharing_change_side(0, all, all_len, out, 0));
+    EXPECT(SHARING_FULL, sharing_project(1, all, all_len, 1u << (l - 1), out, 0));
 }
 
 /* The same equation, whose term has 16 tokens, as one that a walk finds after X1 = X2: the whole
@@ -459,8 +488,160 @@ static void smaller_parts(void) {
     }
 }
 
+/* ---- The widest tables whose words have 16 bits, and the narrowest and widest of 32 bits */
+
+/* The table of l variables in which X1 and Xl are free and the others known: its form, and packed. */
+typedef struct { uint32_t l; uint8_t form[24], packed[20]; size_t len, packed_len; } two_free;
+
+static void put_bytes(uint8_t *at, size_t bytes, uint32_t word) {
+    for (size_t i = 0; i < bytes; i++)
+        at[i] = (uint8_t)(word >> 8 * i & 0xff);
+}
+
+static two_free two_free_of(uint32_t l) {
+    static const uint8_t powers[] = {1, 3, 9, 27, 81};
+    size_t bytes = l <= 16 ? 2 : 4, row = (l + 4) / 5;
+    const uint32_t words[] = {~0u >> (32 - l), ~0u >> (32 - l), 1, 1u << (l - 1)};
+    two_free made;
+    memset(&made, 0, sizeof made);
+    made.l = l;
+    made.form[0] = (uint8_t)l;
+    made.form[2] = 2;
+    for (size_t i = 0; i < COUNT(words); i++)
+        put_bytes(made.form + 4 + bytes * i, bytes, words[i]);
+    made.len = 4 + 4 * bytes;
+    memcpy(made.packed, made.form, 4);
+    made.packed[4] = 1;
+    made.packed[4 + 2 * row - 1] = powers[(l - 1) % 5];
+    made.packed_len = 4 + 2 * row;
+    return made;
+}
+
+/* Both forms there and back; any other length is torn. */
+static void width_forms(const two_free *t) {
+    for (size_t len = 0; len <= sizeof t->form; len++)
+        EXPECT(len == t->len ? SHARING_ACCEPTED : SHARING_TORN,
+               sharing_read(t->form, len, out, sizeof out));
+    for (size_t len = 0; len <= sizeof t->packed; len++)
+        EXPECT(len == t->packed_len ? SHARING_ACCEPTED : SHARING_TORN,
+               sharing_unpack(t->packed, len, out, sizeof out));
+    EXPECT(SHARING_NARROW, sharing_read(t->form, t->len, out, t->len - 1));
+    HOLDS(sharing_read(t->form, t->len, out, t->len) == SHARING_ACCEPTED);
+    HOLDS(wrote(t->form, t->len));
+    EXPECT(SHARING_NARROW, sharing_pack(t->form, t->len, out, t->packed_len - 1));
+    HOLDS(sharing_pack(t->form, t->len, out, t->packed_len) == SHARING_ACCEPTED);
+    HOLDS(wrote(t->packed, t->packed_len));
+    EXPECT(SHARING_NARROW, sharing_unpack(t->packed, t->packed_len, out, t->len - 1));
+    HOLDS(sharing_unpack(t->packed, t->packed_len, out, t->len) == SHARING_ACCEPTED);
+    HOLDS(wrote(t->form, t->len));
+}
+
+/* Each bit of the words turned: one above l is stray, and so is a care bit that a value needs. */
+static void width_bits(const two_free *t) {
+    size_t bits = t->l <= 16 ? 16 : 32;
+    for (size_t bit = 0; bit < 4 * bits; bit++) {
+        two_free turned = *t;
+        size_t place = bit / bits, position = bit % bits;
+        int needed = (place == 0 && position == 0) || (place == 1 && position == t->l - 1);
+        uint32_t due = position >= t->l || needed ? SHARING_STRAY : SHARING_ACCEPTED;
+        turned.form[4 + bit / 8] ^= (uint8_t)(1u << bit % 8);
+        EXPECT(due, sharing_read(turned.form, t->len, out, sizeof out));
+        EXPECT(due, sharing_join(1, t->form, t->len, turned.form, t->len, out, sizeof out));
+        EXPECT(due, sharing_start(0, turned.form, t->len).code);
+    }
+}
+
+/* Sets, groups and names up to the last bit, and where they are above l. */
+static void width_sets(const two_free *t) {
+    const uint32_t first = 1, last = 1u << (t->l - 1), groups[] = {first, 0, last};
+    const uint8_t one[] = {WORD(1), WORD(1), WORD(1), WORD(1)};
+    const uint8_t two[] = {WORD(2), WORD(2), WORD(3), WORD(3), WORD(1), WORD(2)};
+    HOLDS(sharing_convert(t->l, groups, 3, out, t->len) == SHARING_ACCEPTED);
+    HOLDS(wrote(t->form, t->len));
+    HOLDS(sharing_project(0, t->form, t->len, last, out, 8) == SHARING_ACCEPTED);
+    HOLDS(wrote(BYTES(one)));
+    HOLDS(sharing_project(0, t->form, t->len, first | last, out, 12) == SHARING_ACCEPTED);
+    HOLDS(wrote(BYTES(two)));
+    HOLDS(sharing_ground(0, t->form, t->len, t->l, &answer) == 0 && answer == 0);
+    HOLDS(sharing_ground(0, t->form, t->len, t->l - 1, &answer) == 0 && answer == 1);
+    HOLDS(sharing_independent(0, t->form, t->len, first, last, &answer) == 0 && answer == 1);
+    HOLDS(sharing_independent(0, t->form, t->len, last, ~0u >> (32 - t->l), &answer) == 0 &&
+          answer == 0);
+    clear_outputs();
+    EXPECT(SHARING_NAME, sharing_ground(0, t->form, t->len, t->l + 1, &answer));
+    if (t->l == 32) /* a word has no bit above it */
+        return;
+    EXPECT(SHARING_STRAY, sharing_convert(t->l, (const uint32_t[]){1, last << 1}, 2, out, 0));
+    EXPECT(SHARING_KEEP, sharing_project(0, t->form, t->len, last << 1 | 1, out, 0));
+    EXPECT(SHARING_NAME, sharing_independent(0, t->form, t->len, last << 1, 0, &answer));
+    EXPECT(SHARING_NAME, sharing_independent(1, t->form, t->len, 0, last << 1, &answer));
+}
+
+/* X1 = Xl by every call with equations: one entry is left, with a 1 at both. */
+static void width_equations(const two_free *t) {
+    size_t bytes = t->l <= 16 ? 2 : 4;
+    const uint32_t all = ~0u >> (32 - t->l), both = 1 | 1u << (t->l - 1);
+    const uint8_t x1[] = {WORD(1)}, last[] = {WORD(t->l)}, above[] = {WORD(t->l + 1)};
+    const uint8_t run[] = {WORD(1), WORD(1), WORD(1), WORD(1), WORD(t->l)};
+    const uint8_t unify_run[] = {WORD(1), WORD(2), WORD(1), WORD(1), WORD(t->l), WORD(1)};
+    uint8_t due[12] = {WORD(t->l), WORD(1)};
+    put_bytes(due + 4, bytes, all);
+    put_bytes(due + 4 + bytes, bytes, both);
+    size_t due_len = 4 + 2 * bytes;
+    HOLDS(sharing_equation(0, t->form, t->len, t->l, x1, 2, out, due_len) == SHARING_ACCEPTED);
+    HOLDS(wrote(due, due_len));
+    HOLDS(sharing_unify(0, t->form, t->len, x1, 2, last, 2, out, due_len) == SHARING_ACCEPTED);
+    HOLDS(wrote(due, due_len));
+    sharing_running state = sharing_run(0, t->form, t->len, BYTES(run));
+    HOLDS(sharing_write(&state, out, due_len) == SHARING_ACCEPTED && wrote(due, due_len));
+    state = sharing_unify_run(0, t->form, t->len, BYTES(unify_run));
+    HOLDS(sharing_write(&state, out, due_len) == SHARING_ACCEPTED && wrote(due, due_len));
+    state = sharing_start(0, t->form, t->len);
+    EXPECT(SHARING_NAME, sharing_step(&state, t->l + 1, x1, 2));
+    EXPECT(SHARING_NAME, sharing_unify_step(&state, x1, 2, above, 2));
+    EXPECT(SHARING_ACCEPTED, sharing_step(&state, 1, last, 2));
+    HOLDS(state.table.n == 1 && state.table.care[0] == all && state.table.value[0] == both);
+    EXPECT(SHARING_NARROW, sharing_write(&state, out, due_len - 1));
+}
+
+/* The other calls on whole tables, and a value in a state with a bit above l. */
+static void width_tables(const two_free *t) {
+    uint8_t other[SHARING_MAX_FORM];
+    sharing_part part = {good, 0};
+    HOLDS(sharing_change_side(0, t->form, t->len, other, sizeof other) == SHARING_ACCEPTED);
+    size_t other_len = 4 + (t->l <= 16 ? 4 : 8) * (size_t)(other[2] | other[3] << 8);
+    HOLDS(sharing_change_side(1, other, other_len, out, t->len) == SHARING_ACCEPTED);
+    HOLDS(sharing_equal(out, t->len, t->form, t->len, &answer) == 0 && answer == 1);
+    clear_outputs();
+    sharing_smaller(BYTES(t->form), other, other_len, &part);
+    HOLDS(part.ptr == t->form && part.len == t->len);
+    HOLDS(sharing_join(0, t->form, t->len, t->form, t->len, out, t->len) == SHARING_ACCEPTED);
+    HOLDS(wrote(t->form, t->len));
+    EXPECT(SHARING_UNLIKE, sharing_join(0, t->form, t->len, BYTES(good), out, 0));
+    EXPECT(SHARING_UNLIKE, sharing_equal(BYTES(good), t->form, t->len, &answer));
+    sharing_running state = sharing_start(0, t->form, t->len);
+    HOLDS(state.table.value[1] == 1u << (t->l - 1));
+    state.table.care[1] = t->l == 32 ? ~0u >> 1 : state.table.care[1] | 1u << t->l;
+    refuse_value(SHARING_STRAY, &state);
+    state.table.l = SHARING_MAX_VARIABLES + 1;
+    refuse_value(SHARING_WIDTH, &state);
+}
+
+static void widths(void) {
+    const uint32_t ls[] = {15, 16, 17, 18, 31, 32};
+    for (size_t i = 0; i < COUNT(ls); i++) {
+        const two_free t = two_free_of(ls[i]);
+        width_forms(&t);
+        width_bits(&t);
+        width_sets(&t);
+        width_equations(&t);
+        width_tables(&t);
+    }
+}
+
 int main(void) {
     clear_outputs();
+    widths();
     for (size_t i = 0; i < COUNT(bad_tables); i++)
         refuse_table(bad_tables[i]);
     refuse_packed();
@@ -473,7 +654,8 @@ int main(void) {
     two_terms_set_equal();
     refuse_rest();
     refuse_values();
-    refuse_full_lists();
+    refuse_full_lists(16, 2);
+    refuse_full_lists(32, 4);
     refuse_full_equation();
     smaller_parts();
     printf("%u cases, %u failed\n", cases, failures);

@@ -9,7 +9,7 @@
 #include <stdio.h>
 #include <stdlib.h>
 
-enum { THREADS = 8, ROUNDS = 200, TABLES = 24, L = 7 };
+enum { THREADS = 8, ROUNDS = 200, TABLES = 24, L = 7, WIDE = 32 };
 
 typedef struct { uint8_t bytes[SHARING_MAX_FORM]; } form;
 
@@ -69,12 +69,13 @@ int main(void) {
     uint32_t next = 1741;
     for (size_t t = 0; t < TABLES; t++) {
         sharing_entry entries[12];
+        uint32_t l = t < TABLES / 2 ? L : WIDE;
         for (size_t i = 0; i < 12; i++) {
             next = next * 1664525u + 1013904223u;
-            entries[i].care = (next >> 16 | next >> 8) & sharing_variables(L);
-            entries[i].value = entries[i].care & next >> 12;
+            entries[i].care = (next >> 16 | next >> 8 | next << 16) & sharing_variables(l);
+            entries[i].value = entries[i].care & (next >> 12 | next << 20);
         }
-        if (sharing_make_form(L, entries, t / 2, tables[t].bytes, sizeof(form)) != 0)
+        if (sharing_make_form(l, entries, t % 12, tables[t].bytes, sizeof(form)) != 0)
             return EXIT_FAILURE;
     }
     for (size_t i = 0; i < TABLES; i++)

@@ -98,36 +98,35 @@ void put_heading(const char *what, const point *at) {
     putchar(':');
 }
 
-/* The 16-bit number at index i of a form. */
-uint32_t word_at(const uint8_t *form, size_t i) {
-    return (uint32_t)form[2 * i] | (uint32_t)form[2 * i + 1] << 8;
-}
+/* How many entries the table of a point has. */
+size_t entries_of(const point *at) { return sharing_word_at(at->form, 1); }
 
 /* An entry as a string. */
-void put_string(FILE *to, size_t width, uint32_t care, uint32_t value) {
-    for (size_t i = 0; i < width; i++)
-        fputc((care >> i & 1) == 0 ? '*' : (value >> i & 1) == 0 ? '0' : '1', to);
+void put_string(FILE *to, size_t width, sharing_entry entry) {
+    char text[SHARING_MAX_VARIABLES + 1] = "";
+    if (sharing_entry_text((uint32_t)width, entry, text, sizeof text) == SHARING_ACCEPTED)
+        fputs(text, to);
 }
 
 /* The same, and the variables that it has and may have. */
-static void put_entry(FILE *to, const rules *given, uint32_t care, uint32_t value) {
-    uint32_t either = ~care & ((1u << given->width) - 1);
+static void put_entry(FILE *to, const rules *given, sharing_entry entry) {
+    uint32_t either = ~entry.care & sharing_variables((uint32_t)given->width);
     fputs("    ", to);
-    put_string(to, given->width, care, value);
+    put_string(to, given->width, entry);
     /* A single * without a 1 is a 1: a group is never empty. */
-    fputs(value == 0 && (either & (either - 1)) != 0 ? "  any of " : "  ", to);
-    put_variables(to, given, value);
-    fputs(value != 0 && either != 0 ? ", perhaps with " : "", to);
+    fputs(entry.value == 0 && (either & (either - 1)) != 0 ? "  any of " : "  ", to);
+    put_variables(to, given, entry.value);
+    fputs(entry.value != 0 && either != 0 ? ", perhaps with " : "", to);
     put_variables(to, given, either);
     fputc('\n', to);
 }
 
 /* The table of a point, an entry a line, and the variables that are known there. */
 static void put_table(FILE *to, const point *at) {
-    size_t entries = word_at(at->form, 1);
+    size_t entries = entries_of(at);
     uint32_t ground = ground_at(at);
     for (size_t i = 0; i < entries; i++)
-        put_entry(to, at->given, word_at(at->form, 2 + i), word_at(at->form, 2 + entries + i));
+        put_entry(to, at->given, sharing_entry_in(at->form, i));
     if (entries == 0)
         fputs("    no entry\n", to);
     if (ground != 0) {
@@ -169,7 +168,7 @@ bool reach(const rules *given, size_t after, point *out) {
         return false;
     out->given = given;
     out->after = state.applied;
-    out->len = 4 + 4 * state.table.n;
+    out->len = sharing_form_length(state.table.l, state.table.n);
     if (!accepted(given, sharing_write(&state, out->form, sizeof out->form)))
         return false;
     if (state.code == SHARING_FULL)

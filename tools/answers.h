@@ -16,9 +16,9 @@ rules *open_rules(const char *path);
 bool accepted(const rules *given, uint32_t code);
 
 bool reach(const rules *given, size_t after, point *out);
-uint32_t word_at(const uint8_t *form, size_t i);
+size_t entries_of(const point *at);
 void put_heading(const char *what, const point *at);
-void put_string(FILE *to, size_t width, uint32_t care, uint32_t value);
+void put_string(FILE *to, size_t width, sharing_entry entry);
 
 int apart(const rules *given, char *const goals[2], size_t after);
 int pairs(const rules *given, size_t after);

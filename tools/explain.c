@@ -7,10 +7,10 @@
 /* By number: the word of the refusal, what it means, and what to look at. */
 static const char *const meanings[] = {
     [SHARING_TORN] =
-        "torn: the input is shorter or longer than its sizes say, or longer than 4096 bytes. "
+        "torn: the input is shorter or longer than its sizes say, or longer than 8192 bytes. "
         "Look for a message of `sharetext input`, and for bytes lost or added after it.",
     [SHARING_WIDTH] =
-        "width: the number of variables is not 1 to 16. "
+        "width: the number of variables is not 1 to 32. "
         "`sharetext input` writes none such; look at what else wrote the input.",
     [SHARING_ENTRIES] =
         "entries: there are more than 256 entries. "

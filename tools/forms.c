@@ -1,8 +1,6 @@
 /* The forms of tables: one from a readable file, and a readable file from one. */
 #include "answers.h"
 
-#include <sharing_util.h>
-
 #include <stdlib.h>
 
 /* Writes the form of the table at a point, or its packed form. */
@@ -33,10 +31,10 @@ static void tell_refused(const char *name, uint32_t code, bool packed) {
 
 /* Writes what was read as a readable file: the number of variables, then an entry a line. */
 static void put_file(const uint8_t form[SHARING_MAX_FORM]) {
-    uint32_t width = word_at(form, 0), entries = word_at(form, 1);
+    uint32_t width = sharing_word_at(form, 0), entries = sharing_word_at(form, 1);
     printf("vars %u\n", (unsigned)width);
     for (size_t i = 0; i < entries; i++) {
-        put_string(stdout, width, word_at(form, 2 + i), word_at(form, 2 + entries + i));
+        put_string(stdout, width, sharing_entry_in(form, i));
         putchar('\n');
     }
 }

@@ -39,13 +39,22 @@ static bool read_end(reader *r, const char *what) {
 
 /* ---- The line vars */
 
-static const char *const numbered[SHARING_MAX_VARIABLES] = {
-    "X1", "X2",  "X3",  "X4",  "X5",  "X6",  "X7",  "X8",
-    "X9", "X10", "X11", "X12", "X13", "X14", "X15", "X16"};
+/* What is expected after the word vars. */
+static const char *vars_wanted(void) {
+    static char text[160];
+    snprintf(text, sizeof text,
+             "the number of variables, 1 to %d, or their names, each a capital letter or an "
+             "underscore and then letters, digits and underscores",
+             SHARING_MAX_VARIABLES);
+    return text;
+}
 
-static const char *const vars_wanted =
-    "the number of variables, 1 to 16, or their names, each a capital letter or an underscore and "
-    "then letters, digits and underscores";
+/* The next variable of a line that has only their number. */
+static void add_numbered(rules *out) {
+    char *name = out->numbered[out->named];
+    snprintf(name, sizeof out->numbered[0], "X%zu", out->named + 1);
+    out->variable[out->named++] = from_text(name);
+}
 
 /* The number of variables, which are then X1, X2 and so on. */
 static bool read_count(reader *r) {
@@ -55,11 +64,11 @@ static bool read_count(reader *r) {
     if (!whole || count == 0 || count > SHARING_MAX_VARIABLES) {
         tell_piece(&r->where, here, whole && count > 0 ? " variables are too many."
                                                        : " is not a number of variables.");
-        expected("%s", vars_wanted);
+        expected("%s", vars_wanted());
         return false;
     }
-    for (r->out->named = 0; r->out->named < count; r->out->named++)
-        r->out->variable[r->out->named] = from_text(numbered[r->out->named]);
+    while (r->out->named < count)
+        add_numbered(r->out);
     return read_end(r, "the end of the line (a comment begins with % or #)");
 }
 
@@ -69,7 +78,7 @@ static bool add_name(reader *r, piece name) {
     uint32_t number = 0;
     if (same_piece(name, from_text("_"))) {
         tell(&r->where, name, "A bare _ is not a name.");
-        expected("%s", vars_wanted);
+        expected("%s", vars_wanted());
     } else if (find_variable(out, name, &number)) {
         tell_piece(&r->where, name, " stands twice in this line.");
         expected("each variable once");
@@ -101,11 +110,11 @@ static bool next_name(reader *r, const char *what, bool *more) {
 /* The names of the variables, one at least. */
 static bool read_names(reader *r) {
     bool more = true;
-    while (next_name(r, r->out->named == 0 ? vars_wanted : NULL, &more) && more)
+    while (next_name(r, r->out->named == 0 ? vars_wanted() : NULL, &more) && more)
         if (!add_name(r, take_name(&r->rest)))
             return false;
     if (!more && r->out->named == 0)
-        return cannot(r, vars_wanted);
+        return cannot(r, vars_wanted());
     return !more;
 }
 
@@ -131,8 +140,8 @@ bool add_entry(reader *r, piece where, uint32_t care, uint32_t value) {
                  "covers can be left out", SHARING_MAX_ENTRIES);
         return false;
     }
-    out->care[out->entries] = care;
-    out->value[out->entries++] = value;
+    out->entry[out->entries].care = care;
+    out->entry[out->entries++].value = value;
     return true;
 }
 
@@ -201,7 +210,7 @@ static bool read_entry(reader *r) {
 
 /* A group of its own for a variable: an entry with a single 1. */
 static bool add_free(reader *r, piece where, uint32_t number) {
-    return add_entry(r, where, (1u << r->out->named) - 1, 1u << (number - 1));
+    return add_entry(r, where, sharing_variables((uint32_t)r->out->named), 1u << (number - 1));
 }
 
 /* The bare word free: each variable of the line vars. */
@@ -221,12 +230,12 @@ static bool read_free_variable(reader *r, uint32_t *seen) {
         expected_variables(r->out, "");
         return false;
     }
-    if ((*seen & 1u << number) != 0) {
+    if ((*seen >> (number - 1) & 1) != 0) {
         tell_piece(&r->where, name, " stands twice in this line.");
         expected("each variable once");
         return false;
     }
-    *seen |= 1u << number;
+    *seen |= 1u << (number - 1);
     return add_free(r, name, number);
 }
 

@@ -49,23 +49,19 @@ void tell_unknown(const rules *given, const place *where, piece name) {
 
 /* ---- Written forms */
 
-/* A 16-bit number, low byte first. */
-static void put_word(uint8_t *out, size_t *len, size_t word) {
-    out[(*len)++] = (uint8_t)(word & 0xff);
-    out[(*len)++] = (uint8_t)(word >> 8);
-}
-
-/* The form of the table. An entry has 0 at the position of each _, but for the entry of that _. */
+/* The form of the table. An entry has 0 at the position of each _, but for the entry of that _.
+ * Should no form have these entries, which the reader does not let by, its length is 0. */
 size_t write_table(const rules *given, uint8_t out[SHARING_MAX_FORM]) {
-    uint32_t unnamed = (1u << given->width) - (1u << given->named);
-    size_t len = 0;
-    put_word(out, &len, given->width);
-    put_word(out, &len, given->entries);
-    for (size_t i = 0; i < given->entries; i++)
-        put_word(out, &len, given->care[i] | unnamed);
-    for (size_t i = 0; i < given->entries; i++)
-        put_word(out, &len, given->value[i]);
-    return len;
+    uint32_t width = (uint32_t)given->width;
+    uint32_t unnamed = sharing_variables(width) & ~sharing_variables((uint32_t)given->named);
+    sharing_entry entry[SHARING_MAX_ENTRIES];
+    for (size_t i = 0; i < given->entries; i++) {
+        entry[i] = given->entry[i];
+        entry[i].care |= unnamed;
+    }
+    if (sharing_make_form(width, entry, given->entries, out, SHARING_MAX_FORM) != SHARING_ACCEPTED)
+        return 0;
+    return sharing_form_length(width, given->entries);
 }
 
 /* On which side an equation has a variable; the left one is looked at first. */
@@ -74,6 +70,12 @@ sides equation_sides(const rules *given, size_t i) {
     if (given->token[e->first] < HEAD)
         return LEFT_VARIABLE;
     return given->token[e->first + e->left] < HEAD ? RIGHT_VARIABLE : TWO_TERMS;
+}
+
+/* A 16-bit number, low byte first. */
+static void put_word(uint8_t *out, size_t *len, size_t word) {
+    sharing_put_word(out + *len, 0, (uint32_t)word);
+    *len += 2;
 }
 
 /* Tokens as bytes. */

@@ -2,7 +2,7 @@
 #ifndef SHARETEXT_RULES_H
 #define SHARETEXT_RULES_H
 
-#include <sharing.h>
+#include <sharing_util.h>
 
 #include "files.h"
 #include "text.h"
@@ -16,7 +16,7 @@ enum {
     MOST_TOKENS = SHARING_MAX_TOKENS + SHARING_MAX_EQUATIONS,
     MOST_SYMBOL = 2047,
     MOST_ARITY = 15,
-    MOST_SHARERUN_INPUT = 4096,
+    MOST_SHARERUN_INPUT = 8192,
     MOST_EQUATIONS_FORM = 4 + 4 * SHARING_MAX_EQUATIONS + 2 * SHARING_MAX_TOKENS
 };
 
@@ -46,8 +46,9 @@ typedef struct {
     size_t named, width;
     uint32_t absent; /* the named ones that are in no group at the start, bit i - 1 for the ith */
     piece variable[SHARING_MAX_VARIABLES];
+    char numbered[SHARING_MAX_VARIABLES][sizeof "X32"]; /* their names where vars has a number */
     size_t entries;
-    uint32_t care[SHARING_MAX_ENTRIES], value[SHARING_MAX_ENTRIES];
+    sharing_entry entry[SHARING_MAX_ENTRIES];
     size_t equations;
     equation equation[SHARING_MAX_EQUATIONS];
     bool compound; /* some equation has a variable on neither side */

@@ -13,8 +13,8 @@
  *     explain.c   the refusals of sharerun in words
  *
  * Every answer is the library's. This program reads, writes an entry for each variable that the
- * file calls free and for each _, lists the groups that the library's entries cover, and tells
- * which equations and clashes are found in two terms.
+ * file calls free and for each _, lists and counts the groups that the library's entries cover, and
+ * tells which equations and clashes are found in two terms.
  */
 #include "answers.h"
 #include "help.h"

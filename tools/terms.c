@@ -62,7 +62,7 @@ static bool add_unnamed(reader *r, piece where, uint32_t *number) {
         return false;
     }
     *number = (uint32_t)++out->width;
-    return add_entry(r, where, (1u << out->named) - 1, 1u << (*number - 1));
+    return add_entry(r, where, sharing_variables((uint32_t)out->named), 1u << (*number - 1));
 }
 
 /* The variable that stands here: one of the line vars, or _. */

@@ -2,8 +2,6 @@
  * a clash. The library walks and applies them; here they are only told. */
 #include "answers.h"
 
-#include <sharing_util.h>
-
 /* ---- Terms as text */
 
 /* Is an atom with so many arguments one that needs no quotes? */

@@ -8,7 +8,6 @@ use support::tables::{form_entries, LONGEST};
 
 use crate::calls::Calls;
 use crate::input::{Chain, Input};
-use crate::load::L;
 use crate::ours::Ours;
 use crate::plain::Plain;
 use crate::timing::{least, Times};
@@ -143,16 +142,14 @@ fn difference(ours: &Outcome, plain: &Outcome) -> Option<String> {
     ))
 }
 
-/// The answer of the reference, which goes through all groups more slowly, to a question about few
-/// variables.
+/// The answer of the reference to a question: up to 16 variables it is found in a third way.
 fn reference_answer(input: &Input) -> Option<u32> {
-    let few = |table: &[u8]| u32::from(table[0]) <= L;
     let mut answer = UNTOUCHED.into();
     match input {
-        Input::Equal { first, second } if few(first) => {
+        Input::Equal { first, second } => {
             byte_calls::equal(first, second, &mut answer);
         }
-        Input::Independent { table, a, b } if few(table) => {
+        Input::Independent { table, a, b } => {
             byte_calls::independent(Side::Negative.number(), table, *a, *b, &mut answer);
         }
         _ => return None,

@@ -120,7 +120,7 @@ impl Input {
 /// The form of a table with these entries, as they stand.
 fn form(l: u32, entries: &[Entry]) -> Result<Vec<u8>, Refusal> {
     let entries = entries.to_vec();
-    let mut form = vec![0; table_length(entries.len())];
+    let mut form = vec![0; table_length(l, entries.len())];
     write_table(&Table { l, entries }, &mut form)?;
     Ok(form)
 }

@@ -3,22 +3,24 @@
 use std::slice;
 
 use reference::terms::{head, TOKENS};
-use reference::{Equation, Refusal, Side, Table, ENTRIES, VARIABLES};
+use reference::{Equation, Refusal, Side, Table, ENTRIES};
 use support::Random;
 
-use crate::drawing;
 use crate::input::Input;
 use crate::questions::{self, Sort};
-use crate::tables;
+use crate::{drawing, many, tables};
 
 /// The number of variables of most inputs.
 pub const L: u32 = 12;
+
+/// The number of variables of the wider ones, the most for which the words of a form have 16 bits.
+pub const WIDE: u32 = 16;
 
 /// Different inputs for each row, so that no single list decides it.
 pub const INPUTS: usize = 64;
 
 /// The same for chains, which take long.
-pub const CHAINS: usize = 32;
+const CHAINS: usize = 32;
 
 /// The same for one equation on tables that are drawn.
 const EQUATIONS: usize = 100;
@@ -90,25 +92,21 @@ impl Row {
 }
 
 /// All rows: growing by rising density of stars, converting, changes of side, one equation, chains
-/// of equations, the questions, packed forms, two terms.
+/// of equations, the questions, packed forms, two terms; then those of more than 16 variables.
 pub fn rows() -> Result<Vec<Row>, Refusal> {
     let mut random = Random::from_state(SEED);
     let mut later = Random::from_state(LATER_SEED);
     let mut rows = Vec::new();
     for percent in (0..=90).step_by(10) {
-        rows.push(growing(&mut random, percent)?);
+        rows.push(growing(&mut random, L, percent)?);
     }
     for count in [32, 128] {
-        rows.push(converting(&mut random, count)?);
+        rows.push(converting(&mut random, L, count)?);
     }
-    rows.push(change_of_side(
-        "40 strings",
-        &tables::wide_strings(&mut later, L, 40, 3..=4),
-    )?);
-    rows.push(change_of_side(
-        "most groups",
-        &tables::most_groups(&mut later)?,
-    )?);
+    let strings = tables::wide_strings(&mut later, L, 40, 3..=4);
+    rows.push(change_of_side("40 strings", 0.28, &strings)?);
+    let most = tables::most_groups(&mut later)?;
+    rows.push(change_of_side("most groups", 0.28, &most)?);
     rows.extend(equations(&mut later)?);
     rows.extend(wider(&mut Random::from_state(WIDER_SEED))?);
     rows.extend(chains(&mut random, &mut later)?);
@@ -117,34 +115,47 @@ pub fn rows() -> Result<Vec<Row>, Refusal> {
             rows.push(asking(&sort)?);
         }
     }
-    rows.extend(packing(&mut Random::from_state(PACKED_SEED))?);
+    let mut packed = Random::from_state(PACKED_SEED);
+    for l in [L, WIDE] {
+        rows.extend(packing(&mut packed, l, &[1, 32, ENTRIES])?);
+    }
     rows.extend(walks(&mut Random::from_state(WALK_SEED))?);
+    rows.extend(many::rows()?);
     Ok(rows)
 }
 
+/// What the name of a row says of its variables, where they are not as many as in most.
+fn of_variables(l: u32) -> String {
+    match l {
+        L => String::new(),
+        _ => format!(" of {l}"),
+    }
+}
+
 /// Forms of 256 strings, each position `*` with the given chance.
-fn growing(random: &mut Random, percent: usize) -> Result<Row, Refusal> {
+pub fn growing(random: &mut Random, l: u32, percent: usize) -> Result<Row, Refusal> {
     let input = |_| {
-        let string = |_| drawing::string(random, L, percent);
+        let string = |_| drawing::string(random, l, percent);
         let strings: Vec<_> = (0..ENTRIES).map(string).collect();
-        Input::read(L, &strings)
+        Input::read(l, &strings)
     };
-    let name = format!("growing by {ENTRIES}, {percent} % stars");
+    let name = format!("growing by {ENTRIES}{}, {percent} % stars", of_variables(l));
     Ok(Row::new(name, 0.50, (0..INPUTS).map(input))?.bounded(0.50))
 }
 
 /// Rows of nonzero groups.
-fn converting(random: &mut Random, count: usize) -> Result<Row, Refusal> {
+pub fn converting(random: &mut Random, l: u32, count: usize) -> Result<Row, Refusal> {
     let input = |_| {
-        let groups = (0..count).map(|_| drawing::group(random, L)).collect();
-        Ok(Input::Convert { l: L, groups })
+        let groups = (0..count).map(|_| drawing::group(random, l)).collect();
+        Ok(Input::Convert { l, groups })
     };
-    Row::new(format!("converting {count}"), 0.13, (0..INPUTS).map(input))
+    let name = format!("converting {count}{}", of_variables(l));
+    Row::new(name, 0.13, (0..INPUTS).map(input))
 }
 
-fn change_of_side(name: &str, tables: &[Table]) -> Result<Row, Refusal> {
+pub fn change_of_side(name: &str, goal: f64, tables: &[Table]) -> Result<Row, Refusal> {
     let name = format!("change of side, {name}");
-    Row::new(name, 0.28, tables.iter().map(Input::change_side))
+    Row::new(name, goal, tables.iter().map(Input::change_side))
 }
 
 /// One equation by itself.
@@ -184,10 +195,10 @@ fn negative_equations(random: &mut Random) -> Result<Vec<Row>, Refusal> {
 /// The change of side and the negative equation at 16 variables. Strings are chosen so that few
 /// calls are full: with three or four positions fixed the change of side of 8 strings is for 21 of 64.
 fn wider(random: &mut Random) -> Result<Vec<Row>, Refusal> {
-    let strings = tables::wide_strings(random, VARIABLES, 24, 2..=3);
-    let mut rows = vec![change_of_side("24 strings of 16", &strings)?];
+    let strings = tables::wide_strings(random, WIDE, 24, 2..=3);
+    let mut rows = vec![change_of_side("24 strings of 16", 0.28, &strings)?];
     for (percent, fixed) in tables::SHARES {
-        let tables = tables::leaving(VARIABLES, percent, fixed, INPUTS);
+        let tables = tables::leaving(WIDE, percent, fixed, INPUTS);
         let name = format!("negative equation of 16, {percent} %");
         rows.push(equation(name, 0.35, Side::Negative, &tables)?);
     }
@@ -195,7 +206,7 @@ fn wider(random: &mut Random) -> Result<Vec<Row>, Refusal> {
 }
 
 /// The equation X1 = f(X2, X3).
-fn equation(name: String, goal: f64, side: Side, tables: &[Table]) -> Result<Row, Refusal> {
+pub fn equation(name: String, goal: f64, side: Side, tables: &[Table]) -> Result<Row, Refusal> {
     let equation = Equation {
         left: 1,
         term: vec![head(1, 2), 2, 3],
@@ -208,20 +219,21 @@ fn equation(name: String, goal: f64, side: Side, tables: &[Table]) -> Result<Row
 /// 9 of 640 are, of 64 nearly all. From the all-star entry, where nothing is known of the variables,
 /// tables stay short.
 fn chains(random: &mut Random, later: &mut Random) -> Result<Vec<Row>, Refusal> {
-    let drawn = tables::drawn(VARIABLES, CHAINS, 22)?;
-    let more = tables::more_groups(later)?;
-    let unknown = vec![Table::all_star(VARIABLES); CHAINS];
+    let drawn = tables::drawn(WIDE, CHAINS, 22)?;
+    let more = tables::more_groups(later, WIDE, CHAINS)?;
+    let single = tables::single_groups(WIDE, CHAINS)?;
+    let unknown = vec![Table::all_star(WIDE); CHAINS];
     Ok(vec![
         chain(random, "22 draws", 0.15, &drawn)?,
-        chain(later, "16 groups", 0.30, &tables::single_groups()?)?,
+        chain(later, "16 groups", 0.30, &single)?,
         chain(later, "24 groups", 0.20, &more)?,
         chain(later, "all-star entry", 0.60, &unknown)?,
     ])
 }
 
-fn chain(random: &mut Random, name: &str, goal: f64, tables: &[Table]) -> Result<Row, Refusal> {
-    let input = |table| {
-        let equation = |_| drawing::equation(random, VARIABLES);
+pub fn chain(random: &mut Random, name: &str, goal: f64, tables: &[Table]) -> Result<Row, Refusal> {
+    let input = |table: &Table| {
+        let equation = |_| drawing::equation(random, table.l);
         let equations: Vec<_> = (0..CHAIN).map(equation).collect();
         Input::chain(Side::Positive, table, &equations)
     };
@@ -230,8 +242,9 @@ fn chain(random: &mut Random, name: &str, goal: f64, tables: &[Table]) -> Result
 }
 
 /// The questions of one sort. Both sides read the forms first, which widens their strings and leaves
-/// fewer than 256: at 12 variables 16 to 54 % fewer (medians of the rows), at 16 variables 2 to 44 %.
-fn asking(sort: &Sort) -> Result<Row, Refusal> {
+/// fewer than 256: at 12 variables 16 to 54 % fewer (medians of the rows), at 16 variables 2 to 44 %, at
+/// 24 and 32 up to 40 %.
+pub fn asking(sort: &Sort) -> Result<Row, Refusal> {
     let inputs = sort.questions.iter().map(Input::question);
     let row = Row::new(sort.name.clone(), sort.bound, inputs)?;
     Ok(row.bounded(sort.bound))
@@ -243,18 +256,16 @@ type MakeInput = fn(&Table) -> Result<Input, Refusal>;
 /// The calls on packed forms.
 const PACKING: [(&str, MakeInput); 2] = [("packing", Input::pack), ("unpacking", Input::unpack)];
 
-/// Both calls on tables that reading leaves as they are.
-fn packing(random: &mut Random) -> Result<Vec<Row>, Refusal> {
+/// Both calls on tables of so many entries that reading leaves as they are.
+pub fn packing(random: &mut Random, l: u32, counts: &[usize]) -> Result<Vec<Row>, Refusal> {
     let mut rows = Vec::new();
-    for l in [L, VARIABLES] {
-        for count in [1, 32, ENTRIES] {
-            let fixed = l as usize / 2..=l as usize;
-            let tables = tables::grown_strings(random, l, count, &fixed)?;
-            for (call, input) in PACKING {
-                let name = format!("{call} {count} of {l}");
-                let row = Row::new(name, 1.00, tables.iter().map(input))?;
-                rows.push(row.beside_reading(&tables)?);
-            }
+    for &count in counts {
+        let fixed = l as usize / 2..=l as usize;
+        let tables = tables::grown_strings(random, l, count, &fixed)?;
+        for (call, input) in PACKING {
+            let name = format!("{call} {count} of {l}");
+            let row = Row::new(name, 1.00, tables.iter().map(input))?;
+            rows.push(row.beside_reading(&tables)?);
         }
     }
     Ok(rows)
@@ -267,7 +278,7 @@ fn walks(random: &mut Random) -> Result<Vec<Row>, Refusal> {
     let half = TOKENS / 2;
     let mut row = |name: &str, found: u16| {
         let leaves: Vec<(u16, u16)> = (1..=found).map(|x| (x, head(1, 0))).collect();
-        let table = Table::all_star(VARIABLES);
+        let table = Table::all_star(WIDE);
         let input = |_| Input::unify(&table, &drawing::two_terms(random, half, &leaves));
         let name = format!("walk of {half} by {half}{name}");
         Row::new(name, 1.00, (0..INPUTS).map(input))

@@ -8,6 +8,7 @@ mod drawing;
 mod enumeration;
 mod input;
 mod load;
+mod many;
 mod ours;
 mod plain;
 mod questions;

@@ -1,13 +1,14 @@
-//! The plain side: the calls of `reference`, and the questions by enumeration, which takes less
-//! time than the sets of groups that `reference` makes for them.
+//! The plain side: the calls of `reference`. Questions about up to 16 variables go by enumeration; of
+//! more variables there are too many groups, and `reference` cuts strings into pieces.
 
 use reference::entry::low_bits;
 use reference::forms::read_table;
 use reference::refusal::number_of;
-use reference::{byte_calls, Entry, Refusal, Running, ENTRIES};
+use reference::{byte_calls, questions, Entry, Refusal, Running, Side, ENTRIES};
 
 use crate::calls::Calls;
 use crate::enumeration;
+use crate::load::WIDE;
 
 /// Plain Rust.
 pub struct Plain;
@@ -79,7 +80,10 @@ fn equal(first: &[u8], second: &[u8]) -> Result<bool, Refusal> {
     if first.l != second.l {
         return Err(Refusal::Unlike);
     }
-    Ok(enumeration::equal(first.l, &first.entries, &second.entries))
+    match first.l {
+        ..=WIDE => Ok(enumeration::equal(first.l, &first.entries, &second.entries)),
+        _ => questions::equal(&first, &second),
+    }
 }
 
 /// Whether two sets of variables are independent in a negative table.
@@ -88,12 +92,11 @@ fn independent(table: &[u8], first: u32, second: u32) -> Result<bool, Refusal> {
     if (first | second) & !low_bits(table.l) != 0 {
         return Err(Refusal::Name);
     }
-    Ok(enumeration::independent_negative(
-        table.l,
-        &table.entries,
-        first,
-        second,
-    ))
+    let (l, entries) = (table.l, &table.entries);
+    match l {
+        ..=WIDE => Ok(enumeration::independent_negative(l, entries, first, second)),
+        _ => questions::independent(Side::Negative, &table, first, second),
+    }
 }
 
 /// Writes an accepted answer, 1 for yes and 0 for no.

@@ -1,4 +1,4 @@
-//! The random questions, as lists of strings: at 32 variables no form holds them.
+//! The random questions, as lists of strings.
 
 use std::ops::RangeInclusive;
 
@@ -7,8 +7,9 @@ use reference::{Entry, ENTRIES};
 use support::Random;
 
 use crate::drawing::{even_string, fixed_string, group, star, string, variables};
+use crate::load::WIDE;
 
-/// The widths of the rows.
+/// The widths of most rows.
 pub const WIDTHS: [u32; 2] = [12, 16];
 
 /// Different inputs for each row.
@@ -95,15 +96,19 @@ impl Strings {
     }
 }
 
-/// The sorts of the rows at one width.
+/// The sorts of the rows at one width, fewer where there are more variables.
 pub fn sorts(random: &mut Random, l: u32) -> Vec<Sort> {
     let mut sorts = Vec::new();
-    for strings in [
-        Strings::Even,
-        Strings::Stars(30),
-        Strings::Stars(50),
-        Strings::Hard,
-    ] {
+    let same: &[Strings] = match l {
+        ..=WIDE => &[
+            Strings::Even,
+            Strings::Stars(30),
+            Strings::Stars(50),
+            Strings::Hard,
+        ],
+        _ => &[Strings::Even, Strings::Hard],
+    };
+    for &strings in same {
         let draw = || Question::Equality(same_groups(random, strings, l));
         sorts.push(equality("same", strings, l, draw));
     }

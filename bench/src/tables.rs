@@ -3,12 +3,13 @@
 use std::iter::{once, repeat_with};
 use std::ops::RangeInclusive;
 
+use reference::cover::pieces;
 use reference::entry::{low_bits, rising_bits};
-use reference::{groups, growth, operations, Entry, Refusal, Side, Table, VARIABLES};
+use reference::{growth, operations, Entry, Refusal, Table};
 use support::Random;
 
 use crate::drawing::{even_string, fixed_string, some_variables, Draws};
-use crate::load::{CHAINS, INPUTS};
+use crate::load::{INPUTS, WIDE};
 
 /// So few variables that a table can hold most of the groups.
 const FEW: u32 = 8;
@@ -17,6 +18,11 @@ const FEW: u32 = 8;
 /// strings are fixed. The equation on them is full for 4, 2 and 0 of 100; with up to six positions
 /// fixed it would be for 45, 11 and 0.
 pub const SHARES: [(u32, RangeInclusive<usize>); 3] = [(50, 3..=4), (70, 3..=5), (90, 3..=6)];
+
+/// The same of 24 variables, where more calls are full: on these tables the equation is for 1, 0 and 1
+/// of 64.
+pub const SHARES_OF_MANY: [(u32, RangeInclusive<usize>); 3] =
+    [(50, 2..=3), (70, 2..=4), (90, 3..=6)];
 
 /// Tables of one sort; a refusal says that one cannot be made.
 pub type Tables = Result<Vec<Table>, Refusal>;
@@ -27,6 +33,23 @@ pub fn drawn(l: u32, seeds: usize, draws: usize) -> Tables {
         let mut strings = Draws(seed);
         let strings: Vec<u32> = (0..draws).map(|_| strings.string(l)).collect();
         operations::convert(l, &strings)
+    };
+    (1..).take(seeds).map(table).collect()
+}
+
+/// The tables of so many groups that have each variable with a chance of so many percent: one of each
+/// seed from 1 on. Of 32 groups of 24 variables the equation is full for none of 64 with 75 percent,
+/// and for all with 50, as draws have it.
+pub fn random_groups(l: u32, percent: usize, seeds: usize, count: usize) -> Tables {
+    let table = |seed| {
+        let mut random = Random::new(seed);
+        let mut group = || {
+            (0..l)
+                .map(|i| u32::from(random.percent(percent)) << i)
+                .sum()
+        };
+        let groups: Vec<u32> = (0..count).map(|_| group()).collect();
+        operations::convert(l, &groups)
     };
     (1..).take(seeds).map(table).collect()
 }
@@ -55,12 +78,30 @@ pub fn wide_strings(
 }
 
 /// Negative tables of random strings, drawn until they leave at most so many percent of the groups;
-/// 3 or 4 percent fewer are left (medians). One table of each seed from 1 on.
+/// 2 to 6 percent fewer are left (medians). One table of each seed from 1 on.
 pub fn leaving(l: u32, percent: u32, fixed: RangeInclusive<usize>, seeds: usize) -> Vec<Table> {
-    let share = percent as usize * low_bits(l) as usize;
-    let few = |table: &Table| 100 * groups(table, Side::Negative).iter().count() <= share;
+    let share = u64::from(percent) * u64::from(low_bits(l));
+    let few = |table: &Table| 100 * groups_left(table) <= share;
     let table = |seed| filled(&mut Random::from_state(seed), l, fixed.clone(), few);
     (1..).take(seeds).map(table).collect()
+}
+
+/// How many groups no entry covers. They are too many to go through, but each piece that the entries
+/// leave of the all-star string stands for a power of two.
+fn groups_left(table: &Table) -> u64 {
+    let zero = !table.entries.iter().any(|entry| entry.covers(0));
+    strings_left(table.l, Entry::ALL_STAR, &table.entries) - u64::from(zero)
+}
+
+/// How many strings of 0 and 1 that y covers are covered by no entry.
+fn strings_left(l: u32, y: Entry, entries: &[Entry]) -> u64 {
+    match entries.split_first() {
+        None => 1 << (l - y.care.count_ones()),
+        Some((v, later)) if v.matches(y) => pieces(y, *v)
+            .map(|piece| strings_left(l, piece, later))
+            .sum(),
+        Some((_, later)) => strings_left(l, y, later),
+    }
 }
 
 /// The table of random strings, some of their positions fixed, once there are enough. None subsumes
@@ -116,32 +157,32 @@ pub fn most_groups(random: &mut Random) -> Tables {
 /// Tables of one entry of 16 variables: the all-star string, which stands for all groups, then
 /// random strings. X1 to X3 are `*` in each, so that an equation on them has something to do.
 pub fn one_entry(random: &mut Random) -> Vec<Table> {
-    let strings = repeat_with(|| even_string(random, VARIABLES).star(1).star(2).star(4));
+    let strings = repeat_with(|| even_string(random, WIDE).star(1).star(2).star(4));
     let entries = once(Entry::ALL_STAR).chain(strings).take(INPUTS);
     let table = |entry| Table {
-        l: VARIABLES,
+        l: WIDE,
         entries: vec![entry],
     };
     entries.map(table).collect()
 }
 
-/// The table of the 16 groups of one variable each, as before the first equation of a clause whose
+/// The table of the l groups of one variable each, as before the first equation of a clause whose
 /// variables are all free, for each chain.
-pub fn single_groups() -> Tables {
-    let table = operations::convert(VARIABLES, &singles())?;
-    Ok(vec![table; CHAINS])
+pub fn single_groups(l: u32, chains: usize) -> Tables {
+    let table = operations::convert(l, &singles(l))?;
+    Ok(vec![table; chains])
 }
 
 /// The tables of these and 8 random groups of two or three variables.
-pub fn more_groups(random: &mut Random) -> Tables {
+pub fn more_groups(random: &mut Random, l: u32, chains: usize) -> Tables {
     let mut table = || {
-        let mut groups = singles();
-        groups.extend((0..8).map(|_| some_variables(random, VARIABLES, 2..=3)));
-        operations::convert(VARIABLES, &groups)
+        let mut groups = singles(l);
+        groups.extend((0..8).map(|_| some_variables(random, l, 2..=3)));
+        operations::convert(l, &groups)
     };
-    (0..CHAINS).map(|_| table()).collect()
+    (0..chains).map(|_| table()).collect()
 }
 
-fn singles() -> Vec<u32> {
-    rising_bits(low_bits(VARIABLES)).collect()
+fn singles(l: u32) -> Vec<u32> {
+    rising_bits(low_bits(l)).collect()
 }

@@ -1,6 +1,6 @@
 //! Sets of groups, and the binary definitions on them (01, "Binary definitions"; of two terms 02,
 //! "Both sides compound"). Nothing here uses the growth rule, so it says independently what a table
-//! must stand for.
+//! must stand for. A set has a bit for each of the 2^l strings, so l is small here.
 
 use crate::entry::{cut_word, low_bits, variable_bit};
 use crate::table::{Side, Table};
@@ -69,7 +69,8 @@ fn place(string: u32) -> (usize, u64) {
     ((string / 64) as usize, 1 << (string % 64))
 }
 
-/// The groups that a table of one side stands for, by trying all strings of l positions.
+/// The groups that a table of one side stands for, by trying all strings of l positions: for few
+/// variables only.
 pub fn groups(table: &Table, side: Side) -> GroupSet {
     let covered = |group: u32| table.entries.iter().any(|entry| entry.covers(group));
     let strings = 1..=low_bits(table.l);

@@ -1,5 +1,6 @@
 //! The written forms of tables and equations (01, "Written form"; of two terms 02, "Both sides
-//! compound"): 16-bit numbers, low byte first. Refusals come in the order of 01, "Refusals".
+//! compound"): 16-bit numbers, low byte first, but for the care and value words of a table of more
+//! than 16 variables (02, "Thirty-two variables"). Refusals come in the order of 01, "Refusals".
 
 use crate::entry::Entry;
 use crate::growth::grown;
@@ -31,9 +32,41 @@ fn read_sizes(bytes: &[u8]) -> Result<(u16, u16), Refusal> {
     }
 }
 
-/// The length in bytes of the form of a table with n entries.
-pub fn table_length(n: usize) -> usize {
-    4 + 4 * n
+/// The bytes of a care or value word in the form of a table of l variables: 16 bits are enough for
+/// up to 16 variables, and from 17 on there are 32.
+pub fn word_length(l: u32) -> usize {
+    if l <= u16::BITS {
+        2
+    } else {
+        4
+    }
+}
+
+/// Adds a row of care or value words to a form, low byte first.
+pub fn add_words(form: &mut Vec<u8>, l: u32, words: impl Iterator<Item = u32>) {
+    match word_length(l) {
+        2 => form.extend(words.flat_map(|word| (word as u16).to_le_bytes())),
+        _ => form.extend(words.flat_map(u32::to_le_bytes)),
+    }
+}
+
+/// The care or value words of a row of bytes.
+pub fn table_words(l: u32, bytes: &[u8]) -> Vec<u32> {
+    match word_length(l) {
+        2 => bytes
+            .chunks_exact(2)
+            .map(|two| u32::from(u16::from_le_bytes([two[0], two[1]])))
+            .collect(),
+        _ => bytes
+            .chunks_exact(4)
+            .map(|four| u32::from_le_bytes([four[0], four[1], four[2], four[3]]))
+            .collect(),
+    }
+}
+
+/// The length in bytes of the form of a table with l variables and n entries.
+pub fn table_length(l: u32, n: usize) -> usize {
+    4 + 2 * n * word_length(l)
 }
 
 /// The length in bytes of the form of e equations with m tokens.
@@ -51,18 +84,30 @@ pub(crate) fn read_table_sizes(bytes: &[u8]) -> Result<(u32, usize), Refusal> {
     Ok((u32::from(l), usize::from(n)))
 }
 
+/// The n entries of a form of the right length, as they stand: n care words, then n value words.
+pub fn entries_of(l: u32, n: usize, form: &[u8]) -> Vec<Entry> {
+    let words = table_words(l, &form[4..]);
+    let (care, value) = words.split_at(n);
+    care.iter()
+        .zip(value)
+        .map(|(&care, &value)| Entry { care, value })
+        .collect()
+}
+
+/// The form of a table as it stands; nothing is checked.
+pub fn form_of(table: &Table) -> Vec<u8> {
+    let Table { l, entries } = table;
+    let mut form = Vec::with_capacity(table_length(*l, entries.len()));
+    let sizes = [*l as u16, entries.len() as u16];
+    form.extend(sizes.into_iter().flat_map(u16::to_le_bytes));
+    add_words(&mut form, *l, entries.iter().map(|entry| entry.care));
+    add_words(&mut form, *l, entries.iter().map(|entry| entry.value));
+    form
+}
+
 /// The table of a form of the right length: 4 by entry, then the entries are grown in order.
 fn read_entries(l: u32, n: usize, form: &[u8]) -> Result<Table, Refusal> {
-    let words = words_of(&form[4..]);
-    let (care, value) = words.split_at(n);
-    let entries: Vec<Entry> = care
-        .iter()
-        .zip(value)
-        .map(|(&care, &value)| Entry {
-            care: u32::from(care),
-            value: u32::from(value),
-        })
-        .collect();
+    let entries = entries_of(l, n, form);
     if entries.iter().any(|entry| entry.is_stray(l)) {
         return Err(Refusal::Stray);
     }
@@ -75,7 +120,7 @@ fn read_entries(l: u32, n: usize, form: &[u8]) -> Result<Table, Refusal> {
 /// Reads a form that has exactly its length.
 pub fn read_table(bytes: &[u8]) -> Result<Table, Refusal> {
     let (l, n) = read_table_sizes(bytes)?;
-    if bytes.len() != table_length(n) {
+    if bytes.len() != table_length(l, n) {
         return Err(Refusal::Torn);
     }
     read_entries(l, n, bytes)
@@ -85,7 +130,7 @@ pub fn read_table(bytes: &[u8]) -> Result<Table, Refusal> {
 pub fn read_front(bytes: &[u8]) -> Result<(Table, &[u8]), Refusal> {
     let (l, n) = read_table_sizes(bytes)?;
     let (form, rest) = bytes
-        .split_at_checked(table_length(n))
+        .split_at_checked(table_length(l, n))
         .ok_or(Refusal::Torn)?;
     Ok((read_entries(l, n, form)?, rest))
 }
@@ -94,10 +139,7 @@ pub fn read_front(bytes: &[u8]) -> Result<(Table, &[u8]), Refusal> {
 /// 2, 3 and 4, then 9 where the output is too short; a refusal writes nothing.
 pub fn write_table(table: &Table, out: &mut [u8]) -> Result<usize, Refusal> {
     table.check()?;
-    let sizes = [table.l as u16, table.entries.len() as u16];
-    let care = table.entries.iter().map(|entry| entry.care as u16);
-    let value = table.entries.iter().map(|entry| entry.value as u16);
-    put(&bytes_of(sizes.into_iter().chain(care).chain(value)), out)
+    put(&form_of(table), out)
 }
 
 /// The sizes of an equations' form, present (1) and within the limits (7), of the right length (1);

@@ -9,6 +9,7 @@
 
 pub mod binary;
 pub mod byte_calls;
+pub mod cover;
 pub mod entry;
 pub mod equations;
 pub mod forms;

@@ -5,7 +5,7 @@
 pub enum Refusal {
     /// The length is not what the sizes give.
     Torn = 1,
-    /// l is outside 1 to 16.
+    /// l is outside 1 to 32.
     Width = 2,
     /// More than 256 entries.
     Entries = 3,

@@ -1,4 +1,5 @@
-//! The text of the program `sharerun` (01, "The program `sharerun`").
+//! The text of the program `sharerun` (01, "The program `sharerun`"; how much it reads 02, "Thirty-two
+//! variables").
 
 use crate::forms::{read_equations, read_front};
 use crate::refusal::Refusal;
@@ -7,7 +8,7 @@ use crate::table::{Side, Table};
 use crate::terms::Equation;
 
 /// The most bytes of input.
-pub const INPUT: usize = 4096;
+pub const INPUT: usize = 8192;
 
 /// What the program makes of an input: the run as values, and the whole text it prints.
 #[derive(Clone, Debug, PartialEq, Eq)]
@@ -31,7 +32,7 @@ pub fn report(input: &[u8]) -> Report {
     }
 }
 
-/// The input: more than 4096 bytes is 1 before any other check; more may follow the table, and
+/// The input: more than 8192 bytes is 1 before any other check; more may follow the table, and
 /// the equations take exactly the rest.
 fn read_input(input: &[u8]) -> Result<(Table, Vec<Equation>), Refusal> {
     if input.len() > INPUT {

@@ -7,7 +7,7 @@ use crate::refusal::Refusal;
 pub const ENTRIES: usize = 256;
 
 /// The most program variables that a table speaks of.
-pub const VARIABLES: u32 = 16;
+pub const VARIABLES: u32 = 32;
 
 /// Which groups a table stands for: those that some entry covers, or those that none covers.
 #[derive(Clone, Copy, Debug, PartialEq, Eq, Hash)]

@@ -97,7 +97,7 @@ fn compare_answer(expected: Result<bool, Refusal>, call: impl Fn(&mut u32) -> u3
 #[test]
 fn refused_calls_write_nothing() {
     let good = form(&table(2, "01 1*"));
-    let (wide, torn) = (bytes_of([17, 0]), bytes_of([2]));
+    let (wide, torn) = (bytes_of([33, 0]), bytes_of([2]));
     let narrow = form(&table(1, "1"));
     let variable = bytes_of([1]);
     let mut out = [0xa5; 64];

@@ -3,6 +3,7 @@
 mod common;
 
 use common::{some_table, some_term, SIDES};
+use reference::entry::variable_bit;
 use reference::forms::read_table;
 use reference::terms::variables;
 use reference::{
@@ -180,6 +181,32 @@ fn questions_answer_by_groups() {
         let grown = read_table(&form(table)).expect("reads");
         assert_eq!(questions::equal(table, &grown), Ok(true));
     });
+}
+
+/// The same on more variables and entries: the questions do not go through all groups.
+#[test]
+fn questions_of_more_variables_answer_by_groups() {
+    let mut answers = [0; 2];
+    for seed in 0..300 {
+        let mut random = Random::new(seed + 71);
+        let l = random.within(7, 12) as u32;
+        let [table, second] = [(); 2].map(|()| some_table(&mut random, l, 120));
+        let (a, b, x) = (random.set(l), random.set(l), u32::from(random.variable(l)));
+        let sets = [&table, &second].map(|table| groups(table, Side::Positive));
+        let equal = questions::equal(&table, &second);
+        assert_eq!(equal, Ok(sets[0] == sets[1]));
+        for side in SIDES {
+            let set = groups(&table, side);
+            let has = |names: u32| move |group: u32| group & names != 0;
+            let ground = set.iter().all(|group| !has(variable_bit(x))(group));
+            assert_eq!(questions::ground(side, &table, x), Ok(ground));
+            let independent = !set.iter().any(|group| has(a)(group) && has(b)(group));
+            let answer = questions::independent(side, &table, a, b);
+            assert_eq!(answer, Ok(independent));
+            answers[usize::from(independent)] += 1;
+        }
+    }
+    assert!(answers.iter().all(|&count| count > 100), "{answers:?}");
 }
 
 /// What the operations return is a grown list, so its form reads back as the same table.

@@ -23,10 +23,10 @@ fn read_equation_words(words: &[u16]) -> Result<Vec<Equation>, Refusal> {
 #[test]
 fn tables_are_refused_in_order() {
     assert_eq!(read_table(&[]), Err(Refusal::Torn));
-    assert_eq!(read_table(&[17, 0, 0]), Err(Refusal::Torn));
+    assert_eq!(read_table(&[33, 0, 0]), Err(Refusal::Torn));
     assert_eq!(read_words(&[0, 257]), Err(Refusal::Width));
-    assert_eq!(read_words(&[17, 257]), Err(Refusal::Width));
-    assert_eq!(read_words(&[16, 257]), Err(Refusal::Entries));
+    assert_eq!(read_words(&[33, 257]), Err(Refusal::Width));
+    assert_eq!(read_words(&[32, 257]), Err(Refusal::Entries));
     assert_eq!(read_words(&[2, 1, 4]), Err(Refusal::Torn));
     assert_eq!(read_words(&[2, 1, 4, 0, 0]), Err(Refusal::Torn));
     assert_eq!(read_words(&[2, 1, 4, 0]), Err(Refusal::Stray));
@@ -73,11 +73,11 @@ fn table_of_256_entries_is_taken() {
 fn table_values_are_checked() {
     let (care, value) = ([0; ENTRIES], [0; ENTRIES]);
     assert_eq!(
-        Table::from_arrays(16, 0, &care, &value),
-        Ok(Table::empty(16))
+        Table::from_arrays(32, 0, &care, &value),
+        Ok(Table::empty(32))
     );
     assert_eq!(
-        Table::from_arrays(17, 0, &care, &value),
+        Table::from_arrays(33, 0, &care, &value),
         Err(Refusal::Width)
     );
     assert_eq!(
@@ -113,7 +113,7 @@ fn writing_keeps_the_rest_of_the_output() {
         Err(Refusal::Narrow)
     );
     assert_eq!(
-        write_table(&table(17, "0* 11"), &mut out),
+        write_table(&table(33, "0* 11"), &mut out),
         Err(Refusal::Width)
     );
     assert_eq!(out, [2, 0, 1, 0, 1, 0, 0, 0, 0xa5, 0xa5]);
@@ -183,7 +183,7 @@ fn terms_of_1024_tokens_are_taken() {
 fn written_equations_read_back() {
     for seed in 0..2000 {
         let mut random = Random::new(seed + 5);
-        let l = random.within(1, 16) as u32;
+        let l = random.width();
         let count = random.below(10);
         let equations: Vec<Equation> = (0..count)
             .map(|_| Equation {

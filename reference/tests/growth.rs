@@ -114,9 +114,9 @@ fn assert_grown(l: u32, list: &[Entry]) {
 /// A grown list is grown from empty as itself, however it came about.
 #[test]
 fn a_grown_list_is_grown_again_as_itself() {
-    for seed in 0..4000 {
+    for seed in 0..2000 {
         let mut random = Random::new(seed + 77);
-        let l = random.within(1, 16) as u32;
+        let l = random.width();
         let Table { entries, .. } = some_table(&mut random, l, 60);
         let mut list = Vec::new();
         for y in entries {

@@ -7,7 +7,7 @@ use reference::growth::grow;
 use reference::operations::{change_side, convert, equation, projection};
 use reference::questions::{equal, ground};
 use reference::terms::head;
-use reference::{Side, Table};
+use reference::{Side, Table, VARIABLES};
 
 /// The positive table of an equation, as text.
 fn after(given: &Table, variable: u32, term: &[u16]) -> Table {
@@ -88,7 +88,7 @@ fn row_i_equal_in_groups() {
 
 #[test]
 fn row_j_empty_positive() {
-    for l in 1..=16 {
+    for l in 1..=VARIABLES {
         let empty = Table::empty(l);
         let last = l as u16;
         for term in [

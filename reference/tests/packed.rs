@@ -7,7 +7,7 @@ use reference::entry::low_bits;
 use reference::forms::read_table;
 use reference::packed::{pack_row, packed_length, read_packed, row_length};
 use reference::packed::{unpack_row, write_packed};
-use reference::{Entry, Refusal, Table};
+use reference::{Entry, Refusal, Table, VARIABLES};
 use support::tables::{form, packed};
 use support::Random;
 
@@ -28,9 +28,6 @@ fn strings(l: u32) -> Vec<Entry> {
     };
     (0..3u32.pow(l)).map(digits).collect()
 }
-
-/// The widths of one row: those of later requests too.
-const WIDTHS: std::ops::RangeInclusive<u32> = 1..=32;
 
 #[test]
 fn rows_by_hand() {
@@ -53,6 +50,10 @@ fn row_lengths() {
     }
     assert_eq!((row_length(30), row_length(31), row_length(32)), (6, 7, 7));
     assert_eq!((packed_length(16, 256), packed_length(3, 0)), (1028, 4));
+    assert_eq!(
+        (packed_length(17, 256), packed_length(32, 256)),
+        (1028, 1796)
+    );
 }
 
 /// An entry packed and unpacked is the same: all of up to 8 positions, some of more.
@@ -64,7 +65,7 @@ fn unpacking_a_packed_entry() {
         }
     }
     let mut random = Random::new(31);
-    for l in WIDTHS {
+    for l in 1..=VARIABLES {
         for stars in [0, 20, 50, 80, 100] {
             let string = random.string(l, stars);
             assert_eq!(row(l, string).len(), row_length(l));
@@ -98,7 +99,7 @@ fn packing_an_unpacked_row() {
 #[test]
 fn each_byte_of_a_row() {
     let mut random = Random::new(32);
-    for l in WIDTHS {
+    for l in 1..=VARIABLES {
         for place in 0..row_length(l) {
             let positions = (l - 5 * place as u32).min(5);
             for byte in 0..=u8::MAX {
@@ -118,17 +119,29 @@ fn each_byte_of_a_row() {
 #[test]
 fn packed_forms_are_refused_in_order() {
     assert_eq!(read_packed(&[]), Err(Refusal::Torn));
-    assert_eq!(read_packed(&[17, 0, 1]), Err(Refusal::Torn));
+    assert_eq!(read_packed(&[33, 0, 1]), Err(Refusal::Torn));
     assert_eq!(read_packed(&[0, 0, 1, 1, 255]), Err(Refusal::Width));
-    assert_eq!(read_packed(&[17, 0, 1, 1, 255]), Err(Refusal::Width));
+    assert_eq!(read_packed(&[33, 0, 1, 1, 255]), Err(Refusal::Width));
     assert_eq!(read_packed(&[1, 1, 1, 1, 255]), Err(Refusal::Width));
-    assert_eq!(read_packed(&[16, 0, 1, 1, 255]), Err(Refusal::Entries));
+    assert_eq!(read_packed(&[32, 0, 1, 1, 255]), Err(Refusal::Entries));
     assert_eq!(read_packed(&[5, 0, 2, 0, 255]), Err(Refusal::Torn));
     assert_eq!(read_packed(&[5, 0, 0, 0, 255]), Err(Refusal::Torn));
     assert_eq!(read_packed(&[6, 0, 1, 0, 255]), Err(Refusal::Torn));
     assert_eq!(read_packed(&[5, 0, 2, 0, 0, 243]), Err(Refusal::Digit));
     assert_eq!(read_packed(&[4, 0, 2, 0, 81, 0]), Err(Refusal::Digit));
     assert_eq!(read_packed(&[6, 0, 1, 0, 0, 3]), Err(Refusal::Digit));
+    assert_eq!(
+        read_packed(&[32, 0, 1, 0, 0, 0, 0, 0, 0, 0, 9]),
+        Err(Refusal::Digit)
+    );
+    assert_eq!(
+        read_packed(&[32, 0, 1, 0, 0, 0, 0, 0, 0, 0]),
+        Err(Refusal::Torn)
+    );
+    assert_eq!(
+        read_packed(&[32, 0, 1, 0, 0, 0, 0, 0, 0, 0, 3]).map(|table| table.entries),
+        Ok(vec![Entry::of_group(32, 1 << 31)])
+    );
     assert_eq!(read_packed(&[1, 0, 0, 0]), Ok(Table::empty(1)));
     assert_eq!(read_packed(&[5, 0, 1, 0, 242]), Ok(Table::all_star(5)));
 }
@@ -148,7 +161,7 @@ fn writing_keeps_the_rest_of_the_output() {
     let longer = write_packed(&table(6, "000001 000010 000011"), &mut out);
     assert_eq!(longer, Err(Refusal::Narrow));
     assert_eq!(
-        write_packed(&Table::empty(17), &mut out),
+        write_packed(&Table::empty(33), &mut out),
         Err(Refusal::Width)
     );
     assert_eq!(out, written);
@@ -159,7 +172,7 @@ fn writing_keeps_the_rest_of_the_output() {
 fn packed_and_plain_read_alike() {
     for seed in 0..2000 {
         let mut random = Random::new(seed + 33);
-        let l = random.within(1, 16) as u32;
+        let l = random.width();
         let given = some_table(&mut random, l, 40);
         let read = read_packed(&packed(&given));
         assert_eq!(read, read_table(&form(&given)));

@@ -59,15 +59,15 @@ fn refused_inputs_print_the_number_alone() {
     assert_eq!(text(&[]), "refused 1\n");
     assert_eq!(text(&bytes[..33]), "refused 1\n");
     assert_eq!(text(&[bytes.clone(), vec![0]].concat()), "refused 1\n");
-    assert_eq!(text(&bytes_of([17, 0])), "refused 2\n");
-    assert_eq!(text(&vec![17; 4096]), "refused 2\n");
-    assert_eq!(text(&vec![17; 4097]), "refused 1\n");
+    assert_eq!(text(&bytes_of([33, 0])), "refused 2\n");
+    assert_eq!(text(&vec![33; 8192]), "refused 2\n");
+    assert_eq!(text(&vec![33; 8193]), "refused 1\n");
     assert_eq!(text(&bytes_of([3, 257])), "refused 3\n");
     assert_eq!(text(&bytes_of([3, 1, 8, 0])), "refused 4\n");
     assert_eq!(text(&bytes_of([3, 0, 1, 1, 4, 1, 1])), "refused 5\n");
     assert_eq!(text(&bytes_of([3, 0, 1, 0, 1, 0])), "refused 6\n");
     assert_eq!(text(&bytes_of([3, 0, 65, 0])), "refused 7\n");
-    assert_eq!(report(&bytes_of([17, 0])).outcome.table, Table::zero());
+    assert_eq!(report(&bytes_of([33, 0])).outcome.table, Table::zero());
 }
 
 #[test]
@@ -77,6 +77,7 @@ fn no_equation_prints_the_table_read() {
         "vars 3 entries 1\n1**\n"
     );
     assert_eq!(text(&Table::empty(16), &[]), "vars 16 entries 0\n");
+    assert_eq!(text(&Table::empty(32), &[]), "vars 32 entries 0\n");
 }
 
 #[test]
@@ -201,7 +202,7 @@ fn refused_step_changes_nothing() {
 
 #[test]
 fn refused_start_holds_no_table() {
-    let mut state = start(5, &bytes_of([17, 0]));
+    let mut state = start(5, &bytes_of([33, 0]));
     assert_eq!((state.code, state.side, state.applied), (2, 5, 0));
     assert_eq!(state.table, Table::zero());
     assert_eq!(step(&mut state, 1, &bytes_of([1])), 2);

@@ -326,7 +326,7 @@ fn forms_are_refused_in_order() {
 fn written_forms_read_back() {
     for seed in 0..2000 {
         let mut random = Random::new(seed + 59);
-        let l = random.within(1, 16) as u32;
+        let l = random.width();
         let count = random.below(10);
         let equations: Vec<TwoTerms> = (0..count).map(|_| some_terms(&mut random, l, 9)).collect();
         let mut numbers = TermEquations::default();
@@ -365,7 +365,7 @@ fn run_and_steps_agree() {
                 assert_eq!(unify_step(&mut state, &left, &right), 0);
                 let mut out = vec![0; LONGEST];
                 assert_eq!(unify(side, &bytes, &left, &right, &mut out), 0);
-                out.truncate(table_length(form_entries(&out)));
+                out.truncate(table_length(l, form_entries(&out)));
                 bytes = out;
             }
             assert_eq!(state, unify_run(side, &given, &equations.bytes()));

@@ -127,6 +127,58 @@ goals() {
     asked 0 "Parish and Parish: $yes $now" "" apart "$file" Parish Parish
 }
 
+# The last of 17, 28 and 32 variables, in goals, and what is wrong with it.
+wide_answers() {
+    local l at known
+    for l in 17 28 32; do
+        at="after equation 1, X$l = f(X16, X1)"
+        printf 'vars %s\nfree\nX%s = f(X16, X1)\nX16 = a\nX%s = b\n' "$l" "$l" "$l" >"$file"
+        asked 0 "X$l and X16: $yes before the first equation" "" apart "$file" "X$l" X16 --after 0
+        asked 1 "X$l and X16: $no $at $shared" "" apart "$file" "X$l" X16 --after 1
+        asked 0 "X2,X15 and X1,X$l: $yes $at" "" apart "$file" X2,X15 "X1,X$l" --after 1
+        asked 0 "X$l and X$l: $yes after equation 3, X$l = b" "" apart "$file" "X$l" "X$l"
+        run pairs "$file" --after 1
+        same "pairs of $l variables" "0 $((l * (l - 1) / 2)) 3 " "$status $(wc -l <"$out") $(grep -c "$no" "$out") $(<"$err")"
+        run tables "$file"
+        same "the last line of the tables of $l variables" "    known: X1, X16, X$l" "$(tail -n 1 "$out")"
+        known="X$l is in no group at the start: it counts as known"
+        printf 'vars %s\n%s0\n' "$l" "$(times $((l - 1)) '*')" >"$file"
+        asked 0 "X1 and X$l: $yes before the first equation ($known)" "$file: X$l is in no group: it counts as known" apart "$file" X1 "X$l"
+    done
+    # A full equation of 32 variables.
+    full_file | sed "s/^vars 16/vars 32/; s/^\([01][01]*\)\$/\1$(times 16 0)/" >"$file"
+    run pairs "$file"
+    same "a full equation of 32 variables" "2 the all-star table, where every variable may share with every other: $(times 32 '*')" \
+        "$status $(grep -o 'the all-star table.*' "$err")"
+    wrong 'vars 32\nfree X31, X32, X32' 2:16:3 "X32 stands twice in this line." "each variable once"
+    wrong 'vars 32\nX32 = X33' 2:7:3 "X33 is not one of the variables of line 1." \
+        "$(lines 31 'X&' | paste -sd, | sed 's/,/, /g') or X32 $symbols"
+    wrong "vars 32\n$(times 31 0)2" 2:32:1 "'2' cannot stand here." "0, 1 or * for X32, position 32 of 32"
+}
+
+# All groups of so many variables, those of two entries, which have many in common, and a group of all variables.
+wide_groups() {
+    local l stars
+    for l in 17 28 32; do
+        stars=$(times $((l - 1)) '*')
+        printf 'vars %s\n*%s\n' "$l" "$stars" >"$file"
+        run show "$file"
+        same "all groups of $l variables" "0 Groups before the first equation: $(((1 << l) - 1))|    and $(((1 << l) - 65)) more" \
+            "$status $(sed -n '1p;$p' "$out" | paste -sd '|')"
+        same "the last group of one of $l variables" "   $(times $((l - 1)) ' .') x" "$(sed -n "$((1 + l + l))p" "$out")"
+        run tables "$file"
+        same "the entry of all groups of $l variables" "    *$stars  any of $(lines "$l" 'X&' | paste -sd, | sed 's/,/, /g')" "$(tail -n 1 "$out")"
+        printf 'vars %s\n1%s\n%s1\n' "$l" "$stars" "$stars" >"$file"
+        run show "$file"
+        same "groups of two entries of $l variables" "Groups before the first equation: $((3 << (l - 2)))" "$(head -n 1 "$out")"
+        run tables "$file"
+        same "the last of two entries of $l variables" "    ${stars}1  X$l, perhaps with $(lines $((l - 1)) 'X&' | paste -sd, | sed 's/,/, /g')" "$(tail -n 1 "$out")"
+        printf 'vars %s\n%s\n' "$l" "$(times "$l" 1)" >"$file"
+        run show "$file"
+        same "a group of $l variables" "Groups before the first equation: 1|   $(times "$l" ' x')" "$(sed -n '1p;$p' "$out" | paste -sd '|')"
+    done
+}
+
 # The goal $1 is wrong at column $2, in $3 characters, as $4 says, where $5 is expected; first or second.
 wrong_goal() {
     local said

@@ -16,17 +16,26 @@
 #include <stdlib.h>
 #include <string.h>
 
-/* With six positions no table has more than 240 entries of which none covers another. */
-enum { NAMED = 4, UNNAMED = 2, GROUPS = 1 << (NAMED + UNNAMED), EQUATIONS = 4, ROOM = 20000 };
+/*
+ * A file has up to 4 variables and 2 _, or many variables and one _. Of many only 4 stand in
+ * equations and in entries with stars; each other one is a group of its own, or known. So no
+ * equation is full: with six positions no table has more than 240 entries of which none covers
+ * another, and with five no more than 80, and one for each other variable. There are at most 63
+ * groups: of six positions, or 31 of five and one for each other variable.
+ */
+enum { LIVE = 4, UNNAMED = 2, WIDE = 32, GROUPS = 63 };
+enum { ENTRIES = 128, EQUATIONS = 4, ROOM = 20000 };
 
 typedef struct { char text[1000]; size_t first, left, right; } equation;
 
 static struct {
     char text[ROOM];
     size_t len;
-    unsigned named, width;
-    const char *name[NAMED];
-    unsigned entries, care[30], value[30];
+    unsigned named, width, most; /* most: the greatest width that it may have */
+    char name[WIDE][8];
+    unsigned lives, live[LIVE]; /* the variables of entries and equations, from 0 */
+    unsigned entries;
+    uint32_t care[ENTRIES], value[ENTRIES];
     unsigned equations;
     equation equation[EQUATIONS];
     bool compound; /* an equation has a variable on neither side */
@@ -44,6 +53,9 @@ static unsigned below(unsigned most) {
     state = state * 1664525u + 1013904223u;
     return (unsigned)((uint64_t)(state >> 8) * most >> 24);
 }
+
+/* The set of so many variables, 1 to 32. */
+static uint32_t all_of(unsigned variables) { return ~(uint32_t)0 >> (32 - variables); }
 
 /* Writes to the text of the file. */
 static void put(const char *format, ...) {
@@ -66,15 +78,41 @@ static void put_end(void) {
 
 /* ---- Lines */
 
+/* How many variables there are, and which of them stand in entries and equations: of many some,
+ * the last one among them. */
+static void choose_variables(void) {
+    bool many = below(3) == 0;
+    file.named = file.width = many ? 13 + below(WIDE - 12) : 1 + below(LIVE);
+    file.most = file.named + (many ? 1 : UNNAMED);
+    if (file.most > WIDE)
+        file.most = WIDE;
+    file.lives = file.named < LIVE ? file.named : LIVE;
+    for (unsigned i = 0; i < file.lives; i++)
+        file.live[i] = many ? file.named - 1 - i * (1 + below(4)) : i;
+    for (unsigned i = 1; many && i < file.lives; i++)
+        if (file.live[i] >= file.live[i - 1])
+            file.live[i] = file.live[i - 1] - 1;
+}
+
+/* Does the variable at this place, from 0, stand in entries and equations? */
+static bool is_live(unsigned variable) {
+    for (unsigned i = 0; i < file.lives; i++)
+        if (file.live[i] == variable)
+            return true;
+    return false;
+}
+
 /* The line vars, by number or by names. */
 static void make_vars(void) {
-    static const char *const numbered[] = {"X1", "X2", "X3", "X4"};
     static const char *const names[] = {"Baptism", "W", "_Parish", "X2", "O", "B_9"};
     bool by_name = below(2);
     unsigned start = below(6);
-    file.named = file.width = 1 + below(NAMED);
+    choose_variables();
     for (unsigned i = 0; i < file.named; i++)
-        file.name[i] = by_name ? names[(start + i) % 6] : numbered[i];
+        if (by_name && i < 6)
+            snprintf(file.name[i], sizeof file.name[i], "%s", names[(start + i) % 6]);
+        else
+            snprintf(file.name[i], sizeof file.name[i], by_name ? "N%u_" : "X%u", i + 1);
     put("vars");
     if (!by_name)
         put(" %u", file.named);
@@ -84,7 +122,7 @@ static void make_vars(void) {
 }
 
 /* One more entry, as the words have it. */
-static void add_entry(unsigned care, unsigned value) {
+static void add_entry(uint32_t care, uint32_t value) {
     file.care[file.entries] = care;
     file.value[file.entries++] = value;
 }
@@ -97,23 +135,23 @@ static void make_free(void) {
         if (all || below(2)) {
             if (!all)
                 put("%s%s", !some ? " " : below(2) ? " , " : " ", file.name[i]);
-            add_entry((1u << file.named) - 1, 1u << i);
+            add_entry(all_of(file.named), 1u << i);
             some = true;
         }
     /* The bare word is for all of them. */
     for (unsigned i = 0; !some && i < file.named; i++)
-        add_entry((1u << file.named) - 1, 1u << i);
+        add_entry(all_of(file.named), 1u << i);
     put_end();
 }
 
 /* A random entry. */
 static void make_entry(void) {
-    unsigned care = 0, value = 0;
+    uint32_t care = 0, value = 0;
     put_blank();
     for (unsigned i = 0; i < file.named; i++) {
-        unsigned kind = below(3);
-        care |= (unsigned)(kind < 2) << i;
-        value |= (unsigned)(kind == 1) << i;
+        unsigned kind = is_live(i) ? below(3) : 0;
+        care |= (uint32_t)(kind < 2) << i;
+        value |= (uint32_t)(kind == 1) << i;
         put("%c", "01*"[kind]);
     }
     add_entry(care, value);
@@ -134,8 +172,8 @@ static void add_head(const char *symbol, unsigned arity) {
 
 /* A variable; its number is returned, and its token not yet written. */
 static unsigned make_variable(void) {
-    unsigned number = 1 + below(file.named);
-    if (file.width < file.named + UNNAMED && below(6) == 0) {
+    unsigned number = 1 + file.live[below(file.lives)];
+    if (file.width < file.most && below(6) == 0) {
         put("_");
         return ++file.width;
     }
@@ -307,7 +345,7 @@ static void make_file(void) {
     for (unsigned i = 0; i < equations; i++)
         make_equation(kinds);
     for (unsigned i = file.named; i < file.width; i++)
-        add_entry((1u << file.named) - 1, 1u << i);
+        add_entry(all_of(file.named), 1u << i);
 }
 
 /* ---- What must come of it */
@@ -325,11 +363,14 @@ static FILE *open_result(const char *folder, unsigned number, const char *kind) 
     return to;
 }
 
-/* A 16-bit number, low byte first. */
-static void put_word(FILE *to, size_t word) {
-    fputc((int)(word & 0xff), to);
-    fputc((int)(word >> 8), to);
+/* A number of so many bytes, low byte first. */
+static void put_number(FILE *to, unsigned bytes, size_t number) {
+    for (unsigned i = 0; i < bytes; i++)
+        fputc((int)(number >> 8 * i & 0xff), to);
 }
+
+/* A 16-bit number. */
+static void put_word(FILE *to, size_t word) { put_number(to, 2, word); }
 
 /* The side of an equation that is a variable alone, as `input` takes it: 0 left, 1 right. */
 static size_t variable_side(const equation *e) { return file.token[e->first] >= 0x8000; }
@@ -362,15 +403,20 @@ static void write_both_sides(FILE *to) {
         put_word(to, file.token[i]);
 }
 
+/* The care word of an entry: it is 0 at each _, but for the entry of that _. */
+static uint32_t care_of(unsigned entry) {
+    return file.care[entry] | (all_of(file.width) & ~all_of(file.named));
+}
+
 /* What `input` writes of the file, or `input --unify`. */
 static void write_words(FILE *to) {
-    unsigned unnamed = (1u << file.width) - (1u << file.named);
+    unsigned bytes = file.width > 16 ? 4 : 2;
     put_word(to, file.width);
     put_word(to, file.entries);
     for (unsigned i = 0; i < file.entries; i++)
-        put_word(to, file.care[i] | unnamed);
+        put_number(to, bytes, care_of(i));
     for (unsigned i = 0; i < file.entries; i++)
-        put_word(to, file.value[i]);
+        put_number(to, bytes, file.value[i]);
     put_word(to, file.equations);
     if (file.compound)
         write_both_sides(to);
@@ -379,40 +425,53 @@ static void write_words(FILE *to) {
 }
 
 /* A set of groups; a group is a set of variables. */
-typedef struct { bool has[GROUPS]; } groups;
+typedef struct { unsigned count; uint32_t group[GROUPS]; } groups;
 
-/* The groups of the entries. */
+/* Adds a group, unless it is there or empty. Is it new? */
+static bool add_group(groups *all, uint32_t group) {
+    for (unsigned i = 0; i < all->count; i++)
+        if (all->group[i] == group)
+            return false;
+    if (group == 0)
+        return false;
+    all->group[all->count++] = group;
+    return true;
+}
+
+/* The groups of the entries: the ones of each with some of its stars. */
 static groups start_groups(void) {
-    unsigned unnamed = (1u << file.width) - (1u << file.named);
-    groups all = {{false}};
-    for (unsigned g = 1; g < 1u << file.width; g++)
-        for (unsigned i = 0; i < file.entries; i++)
-            all.has[g] |= (g & (file.care[i] | unnamed)) == file.value[i];
+    groups all = {0, {0}};
+    for (unsigned i = 0; i < file.entries; i++) {
+        uint32_t stars = all_of(file.width) & ~care_of(i), some = stars;
+        do {
+            add_group(&all, file.value[i] | some);
+            some = (some - 1) & stars;
+        } while (some != stars);
+    }
     return all;
 }
 
 /* One round of the closure: is there a further group that is the union of two? */
 static bool close_once(groups *all) {
     bool more = false;
-    for (unsigned g = 1; g < GROUPS; g++)
-        for (unsigned h = 1; all->has[g] && h < g; h++)
-            if (all->has[h] && !all->has[g | h])
-                more = all->has[g | h] = true;
+    for (unsigned i = 0; i < all->count; i++)
+        for (unsigned j = 0; j < i; j++)
+            more = add_group(all, all->group[i] | all->group[j]) || more;
     return more;
 }
 
 /* The groups after x = t, by the definition of Jacobs and Langen. */
 static groups after_one(groups before, uint32_t left, uint32_t right) {
-    groups joined = {{false}};
-    for (unsigned g = 1; g < GROUPS; g++)
-        for (unsigned h = 1; h < GROUPS; h++)
-            if (before.has[g] && before.has[h] && (g & left) != 0 && (h & right) != 0)
-                joined.has[g | h] = true;
+    groups joined = {0, {0}};
+    for (unsigned i = 0; i < before.count; i++)
+        for (unsigned j = 0; j < before.count; j++)
+            if ((before.group[i] & left) != 0 && (before.group[j] & right) != 0)
+                add_group(&joined, before.group[i] | before.group[j]);
     while (close_once(&joined)) {
     }
-    for (unsigned g = 1; g < GROUPS; g++)
-        if (before.has[g] && (g & (left | right)) == 0)
-            joined.has[g] = true;
+    for (unsigned i = 0; i < before.count; i++)
+        if ((before.group[i] & (left | right)) == 0)
+            add_group(&joined, before.group[i]);
     return joined;
 }
 
@@ -449,15 +508,15 @@ static clash unify(size_t left, size_t right, groups *now) {
 
 /* The groups after an equation, and its clash. */
 static groups after_equation(groups before, const equation *e, clash *found) {
-    groups none = {{false}};
+    groups none = {0, {0}};
     *found = unify(e->first, e->first + e->left, &before);
     return found->left != 0 ? none : before;
 }
 
 /* Is there a group that has a variable of each set? */
 static bool meets(const groups *all, uint32_t first, uint32_t second) {
-    for (unsigned g = 1; g < GROUPS; g++)
-        if (all->has[g] && (g & first) != 0 && (g & second) != 0)
+    for (unsigned i = 0; i < all->count; i++)
+        if ((all->group[i] & first) != 0 && (all->group[i] & second) != 0)
             return true;
     return false;
 }
@@ -492,7 +551,7 @@ static void write_place(FILE *to, unsigned after) {
 /* A head as it is told; the empty list has no quotes there. */
 static void write_head(FILE *to, unsigned head) {
     const char *name = file.symbol[(head - 0x8000) / 16 - 1];
-    fputs(strcmp(name, "[]") == 0 ? name : first_way(name), to);
+    fputs(head % 16 == 0 && strcmp(name, "[]") == 0 ? name : first_way(name), to);
     if (strncmp(name, "number ", 7) != 0)
         fprintf(to, "/%u", head % 16);
 }
@@ -530,23 +589,23 @@ static void write_pair(FILE *to, const point *at, const groups *start, const uns
 }
 
 /* The row of a group: x for each of its variables. A greater row stands before a lesser one. */
-static const char *row_of(unsigned group) {
-    static char row[2 * (NAMED + UNNAMED) + 1];
+static const char *row_of(uint32_t group) {
+    static char row[2 * WIDE + 1];
     for (unsigned i = 0; i < file.width; i++)
         snprintf(row + 2 * i, 3, " %c", (group >> i & 1) != 0 ? 'x' : '.');
     return row;
 }
 
 /* The group of so many variables whose row is the greatest that is less than `last`; 0 is none. */
-static unsigned next_group(const groups *now, unsigned size, const char *last) {
-    unsigned best = 0;
-    char row[2 * (NAMED + UNNAMED) + 1] = "";
-    for (unsigned g = 1; g < GROUPS; g++) {
+static uint32_t next_group(const groups *now, unsigned size, const char *last) {
+    uint32_t best = 0;
+    char row[2 * WIDE + 1] = "";
+    for (unsigned k = 0; k < now->count; k++) {
+        uint32_t g = now->group[k];
         unsigned variables = 0;
         for (unsigned i = 0; i < file.width; i++)
             variables += g >> i & 1;
-        if (now->has[g] && variables == size && strcmp(row_of(g), last) < 0 &&
-            strcmp(row_of(g), row) > 0) {
+        if (variables == size && strcmp(row_of(g), last) < 0 && strcmp(row_of(g), row) > 0) {
             best = g;
             strcpy(row, row_of(g));
         }
@@ -554,11 +613,9 @@ static unsigned next_group(const groups *now, unsigned size, const char *last) {
     return best;
 }
 
-/* What `show` prints at a point: with six positions there are at most 63 groups, and all fit. */
+/* What `show` prints at a point: all its groups fit. */
 static void write_show(FILE *to, const point *at, const groups *start) {
-    unsigned count = 0;
-    for (unsigned g = 1; g < GROUPS; g++)
-        count += at->now.has[g];
+    unsigned count = at->now.count;
     fputs("Groups ", to);
     write_place(to, at->after);
     write_notes(to, false, at->first, at->number, start);
@@ -574,8 +631,8 @@ static void write_show(FILE *to, const point *at, const groups *start) {
         fprintf(to, "%s\n", i < file.named ? file.name[i] : "_");
     }
     for (unsigned size = 1; size <= file.width; size++) {
-        char row[2 * (NAMED + UNNAMED) + 1] = "~";
-        for (unsigned g; (g = next_group(&at->now, size, row)) != 0;)
+        char row[2 * WIDE + 1] = "~";
+        for (uint32_t g; (g = next_group(&at->now, size, row)) != 0;)
             fprintf(to, "   %s\n", strcpy(row, row_of(g)));
     }
 }

@@ -33,6 +33,18 @@ written_forms() {
     has_form "6 0 2 0 31 0 32 0 0 0 32 0" "6 0 2 0 0 2 242 1"
     printf 'vars 16\n****************\n' >"$file"
     has_form "16 0 1 0 0 0 0 0" "16 0 1 0 242 242 242 2"
+    # From 17 variables on a word has four bytes.
+    printf 'vars 17\n*****************\n' >"$file"
+    has_form "17 0 1 0 0 0 0 0 0 0 0 0" "17 0 1 0 242 242 242 8"
+    printf 'vars 17\n****************1\n1***************0\n' >"$file"
+    has_form "17 0 2 0 0 0 1 0 1 0 0 0 0 0 1 0 1 0 0 0" "17 0 2 0 242 242 242 5 241 242 242 8"
+    printf 'vars 32\n%s1\n' "$(times 31 0)" >"$file"
+    has_form "32 0 1 0 255 255 255 255 0 0 0 128" "32 0 1 0 0 0 0 0 0 0 3"
+    printf 'vars 32\n1%s0\n*%s1\n' "$(times 30 0)" "$(times 30 '*')" >"$file"
+    has_form "32 0 2 0 255 255 255 255 0 0 0 128 1 0 0 0 0 0 0 128" "32 0 2 0 1 0 0 0 0 0 0 242 242 242 242 242 242 5" "--after 0"
+    # A _ after 16 variables makes the words wider.
+    printf 'vars 16\n***************1\nX1 = _\n' >"$file"
+    has_form "17 0 2 0 0 128 1 0 255 255 1 0 0 128 0 0 0 0 1 0" "17 0 2 0 242 242 242 1 0 0 0 3" "--after 0"
     # Each _ has a position after the others.
     printf 'vars 2\n**\n_ = X1\n' >"$file"
     has_form "3 0 2 0 4 0 3 0 0 0 0 0" "3 0 2 0 8 18" "--after 0"
@@ -78,6 +90,11 @@ read_forms() {
     reads_as "16 0 2 0 242 242 242 2 0 0 0 1" 'vars 16\n****************' --packed
     reads_as "16 0 2 0 242 242 242 1 0 0 0 0" 'vars 16\n***************1' --packed
     reads_as "3 0 4 0 1 0 7 4" 'vars 3\n1*0' --packed
+    reads_as "17 0 0 0" 'vars 17'
+    reads_as "17 0 1 0 1 0 1 0 0 0 1 0" "vars 17\n0$(times 15 '*')1"
+    reads_as "32 0 1 0 1 0 0 128 0 0 0 128" "vars 32\n0$(times 30 '*')1"
+    reads_as "32 0 1 0 240 242 242 242 242 242 5" "vars 32\n0$(times 30 '*')1" --packed
+    reads_as "31 0 1 0 242 242 242 242 242 242 1" "vars 31\n$(times 30 '*')1" --packed
 }
 
 # The bytes $1, as numbers, with the options $3, if any, are refused with the number and words $2.
@@ -94,15 +111,16 @@ refuses() {
 }
 
 refused_forms() {
-    local torn="1, torn: the length is not what the sizes give" width="2, width: l is not 1 to 16"
+    local torn="1, torn: the length is not what the sizes give" width="2, width: l is not 1 to 32"
     local entries="3, entries: more than 256 entries"
     local digit="12, digit: a packed byte of 243 or more, or an unused digit that is not 0"
     for option in "" --packed; do
         refuses "" "$torn" $option
-        refuses "17 0 1" "$torn" $option
+        refuses "33 0 1" "$torn" $option
         refuses "0 0 1 1 255" "$width" $option
-        refuses "17 0 1 1 255" "$width" $option
+        refuses "33 0 1 1 255" "$width" $option
         refuses "16 0 1 1 255" "$entries" $option
+        refuses "32 0 1 1 255" "$entries" $option
         refuses "2 0 0 0 255" "$torn" $option
     done
     refuses "2 0 1 0 4 0 0" "$torn"
@@ -112,6 +130,16 @@ refused_forms() {
     refuses "5 0 2 0 242 243" "$digit" --packed
     refuses "6 0 1 0 255 0" "$digit" --packed
     refuses "4 0 2 0 81 0" "$digit" --packed
+    # Words of the other width, cut, and with a bit that cannot be.
+    refuses "17 0 1 0 0 0 0 0" "$torn"
+    refuses "16 0 1 0 0 0 0 0 0 0 0 0" "$torn"
+    refuses "32 0 1 0 1 0 0 128 1 0 0" "$torn"
+    refuses "32 0 1 0 1 0 0 128 1 0 0 128 0" "$torn"
+    refuses "17 0 1 0 0 0 2 0 0 0 0 0" "4, stray: a bit above l, or a value without care"
+    refuses "31 0 1 0 0 0 0 128 0 0 0 0" "4, stray: a bit above l, or a value without care"
+    refuses "32 0 1 0 255 255 255 127 0 0 0 128" "4, stray: a bit above l, or a value without care"
+    refuses "32 0 1 0 0 0 0 0 0 0 9" "$digit" --packed
+    refuses "32 0 1 0 0 0 0 0 0 0" "$torn" --packed
     # Of a kind that is not asked for.
     refuses "3 0 3 0 1 21 15" "$torn"
     refuses "3 0 3 0 7 0 3 0 5 0 1 0 2 0 4 0" "$torn" --packed
@@ -128,7 +156,7 @@ form_is() {
 # A form's file has the same form, plain and packed; the other commands take it.
 there_and_back() {
     local form=$scratch/form packed=$scratch/packed text=$scratch/text
-    for name in examples/parish.txt tests/tools.d/cases/*/register.txt; do
+    for name in examples/parish.txt examples/marriage.txt tests/tools.d/cases/*/register.txt; do
         "$program" form "$name" >"$form" 2>"$scratch/ignored"
         "$program" form "$name" --packed >"$packed" 2>"$scratch/ignored"
         "$program" text "$form" >"$text"

@@ -3,7 +3,7 @@
 
 # ---- Mistakes
 
-variables="the number of variables, 1 to 16, or their names, each a capital letter or an underscore and then letters, digits and underscores"
+variables="the number of variables, 1 to 32, or their names, each a capital letter or an underscore and then letters, digits and underscores"
 further="a further variable, with a capital letter or an underscore first"
 first_line="a line such as: vars 3, or: vars Baptism Wedding Parish"
 item="an entry of 0, 1 and *, the word free, or an equation such as X1 = f(X2)"
@@ -29,11 +29,11 @@ wrong_vars() {
     wrong 'vars , A' 1:6:1 "',' cannot stand here." "$variables"
     wrong 'vars 0' 1:6:1 "0 is not a number of variables." "$variables"
     wrong 'vars 3x' 1:6:2 "3x is not a number of variables." "$variables"
-    wrong 'vars 17' 1:6:2 "17 variables are too many." "$variables"
+    wrong 'vars 33' 1:6:2 "33 variables are too many." "$variables"
     wrong 'vars 18446744073709551619\n' 1:6:20 "18446744073709551619 variables are too many." "$variables"
     wrong 'vars 3 4' 1:8:1 "'4' cannot stand here." "the end of the line (a comment begins with % or #)"
     wrong 'vars 3 X4' 1:8:2 "'X4' cannot stand here." "the end of the line (a comment begins with % or #)"
-    wrong 'vars A B C D E F G H I J K L M N O P Qu R' 1:38:2 "Qu is one variable too many." "at most 16 variables"
+    wrong "vars $(lines 32 'V&' | xargs) Qu R" 1:125:2 "Qu is one variable too many." "at most 32 variables"
     wrong 'vars Ab B Ab' 1:11:2 "Ab stands twice in this line." "each variable once"
     wrong 'vars A _' 1:8:1 "A bare _ is not a name." "$variables"
     wrong 'vars A, B,' 1:11:1 "$early" "$further"
@@ -247,8 +247,8 @@ wrong_limits() {
     run input "$file"
     same "status of a list of 511" 0 "$status"
     wrong "vars 3\nX1 = g(f($(lines 16 X1 | paste -sd,)))" 2:55:2 "There are more than 15 arguments of one symbol." "at most 15 arguments"
-    wrong 'vars 16\nX1 = f(_)' 2:8:1 "There is no room for this _, a variable of its own." \
-        "at most 16 variables, those of line 1 and each _ counted"
-    wrong 'vars 14\n_ = _\nX1 = f(a, _)' 3:11:1 "There is no room for this _, a variable of its own." \
-        "at most 16 variables, those of line 1 and each _ counted"
+    wrong 'vars 32\nX1 = f(_)' 2:8:1 "There is no room for this _, a variable of its own." \
+        "at most 32 variables, those of line 1 and each _ counted"
+    wrong 'vars 30\n_ = _\nX1 = f(a, _)' 3:11:1 "There is no room for this _, a variable of its own." \
+        "at most 32 variables, those of line 1 and each _ counted"
 }

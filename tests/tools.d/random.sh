@@ -38,6 +38,7 @@ good_file() {
     done
     run show "$file"
     same "groups of $file" "0 " "$status $(cmp "$folder/$1.show" "$out" 2>&1)"
+    many=$((many + ($(head -n 1 < <(cat "$folder/$1".[wu]* | words)) > 16)))
     same_form "$file" "$folder/$1.words"
 }
 
@@ -114,7 +115,7 @@ bad_file() {
 }
 
 random_files() {
-    local folder=$scratch/random i answers=0 refusing=0 terms=0 clashing=0 taken=0 told=0
+    local folder=$scratch/random i answers=0 refusing=0 terms=0 clashing=0 many=0 taken=0 told=0
     mkdir -p "$folder"
     gcc "${strict[@]}" "${sanitize[@]}" tests/tools.d/files.c -o "$built/files"
     "$built/files" "$folder" 80 "$1"
@@ -124,9 +125,9 @@ random_files() {
     done
     file=$scratch/file
     # Files of each kind were among them.
-    same "random answers, with some no, files of two terms, with some clashes, and changed files taken and told: \
-$answers $refusing $terms $clashing $taken $told" 1 \
-        $((answers > 160 && refusing > 40 && terms > 14 && clashing > 4 && taken > 10 && told > 40))
+    same "random answers, with some no, files of two terms, with some clashes, files of more than 16 variables, and changed files taken and told: \
+$answers $refusing $terms $clashing $many $taken $told" 1 \
+        $((answers > 160 && refusing > 40 && terms > 14 && clashing > 4 && many > 14 && taken > 10 && told > 40))
 }
 
 # Bytes of any kind: the program must end by itself, with no report of a sanitizer, and say something.
@@ -139,7 +140,7 @@ random_bytes() {
         run explain
         same "status of explain of random bytes $i" 1 $((status < 2))
         for option in "" --packed; do
-            { printf '%b' "\\x$((i % 9))\\x0\\x$((i % 3))\\x0" && head -c $((i % 13)) <(any_bytes "$i"); } >"$file"
+            { printf '%b' "\\x$(printf %x $((i % 36)))\\x0\\x$((i % 3))\\x0" && head -c $((i % 17)) <(any_bytes "$i"); } >"$file"
             # shellcheck disable=SC2086
             run text "$file" $option
             same "status of text $option of random bytes $i: $(tail -n 3 "$err")" 1 $((status == 0 || status == 2))

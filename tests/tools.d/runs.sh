@@ -70,8 +70,8 @@ each_number() {
             same "advice after $line" 1 "$(sed -n 2p "$out" | grep -c '\. .*[Ll]ook \(at\|for\) ')"
         done
     done <<'END'
-1 torn longer than 4096 bytes
-2 width the number of variables is not 1 to 16
+1 torn longer than 8192 bytes
+2 width the number of variables is not 1 to 32
 3 entries more than 256 entries
 4 stray a bit above the last variable
 5 name a variable is not one of X1 to Xl
@@ -125,6 +125,19 @@ show() {
     same "the words in show" "$example" "$(sed -n '/^As 16/,/^sharerun/p' <<<"$shown" | grep '^ ' | xargs)"
     same "sharerun's lines in show" "$("$program" input examples/parish.txt | "$sharerun")" "$(sed -n '/^sharerun/,/^$/s/^    //p' <<<"$shown")"
     same "the pairs in show" "$("$program" pairs examples/parish.txt)" "$(sed -n '/^Goals/,$s/^    //p' <<<"$shown")"
+    # With more than 16 variables the words of entries stand as 32-bit numbers, between the sizes and the equations.
+    printf 'vars 17\n1***************1\n00000000000000011\nX17 = X1\n' >"$file"
+    shown=$(tools/show "$file" 2>/dev/null)
+    same "the numbers in show" "17 2|65537 131071|65537 98304|1 1 17 1 1" \
+        "$(sed -n '/^As 16-bit numbers, with care and value words of 32 bits, the input of sharerun:/,/^$/p' <<<"$shown" | grep '^ ' | sed 's/^ *//; s/  */ /g' | paste -sd '|')"
+    same "sharerun's lines in show of 17 variables" "$("$program" input "$file" 2>/dev/null | "$sharerun")" "$(sed -n '/^sharerun/,/^$/s/^    //p' <<<"$shown")"
+    # Of a file that sharerun does not read the words are those of both sides, and the tables are those of sharetext.
+    shown=$(tools/show examples/records.txt 2>/dev/null)
+    same "the words in show of two terms" "$("$program" input --unify examples/records.txt 2>/dev/null | words | xargs)" \
+        "$(sed -n '/^As 16-bit words, the input of sharing_unify_run:/,/^$/p' <<<"$shown" | grep '^ ' | xargs)"
+    same "the tables in show of two terms" "$("$program" explain examples/records.txt 2>/dev/null || true; "$program" tables examples/records.txt 2>/dev/null)" \
+        "$(sed -n '/^sharetext explain and/,/^$/s/^    //p' <<<"$shown")"
+    same "the pairs in show of two terms" 6 "$(sed -n '/^Goals/,$p' <<<"$shown" | grep -c ' run side by side ')"
     printf 'vars 3\n10\n' >"$file"
     status=0
     tools/show "$file" >"$out" 2>"$err" || status=$?

@@ -27,9 +27,30 @@ vars_words() {
     writes 'vars 1' "1 0 0 0"
     writes 'vars 016\n***************1\n****************\n0000000000000000\n' "16 3 32768 0 65535 32768 0 0 0 0"
     writes 'vars A B C D E F G H I J K L M N O P\nP = A' "16 0 1 1 16 1 1"
+    writes "vars $(lines 32 'V&' | xargs)\nV32 = V17" "32 0 1 1 32 1 17"
     writes 'vars _A Ab9_ _1\n_1 = _A' "3 0 1 1 3 1 1"
     # X2 is a name like any other.
     writes 'vars X2 X1\nX1 = X2' "2 0 1 1 2 1 1"
+}
+
+# More than 16 variables: the words of entries have 32 bits, all else 16.
+wide_words() {
+    local l last all alone cares
+    for l in 17 28 31 32; do
+        last=$((1 << (l - 1))) all=$(((1 << l) - 1)) alone=() cares=()
+        while ((${#alone[@]} < l)); do alone+=($((1 << ${#alone[@]}))) cares+=("$all"); done
+        writes "vars $l" "$l 0 0 0"
+        writes "vars $l\n$(times $((l - 1)) '*')1\n$(times $l '*')\n$(times $l 0)\n0$(times $((l - 1)) '*')" \
+            "$l 4 $(wide "$last" 0 "$all" 1)$(wide "$last" 0 0 0)0 0"
+        writes "vars $l\nfree X$l, X9\nX$l = f(X9)\nX1 = X$l" \
+            "$l 2 $(wide "$all" "$all")$(wide "$last" 256)2 3 $l 1 2 1 $(head_of 1 1) 9 $l"
+        writes "vars $l\nfree" "$l $l $(wide "${cares[@]}" "${alone[@]}")0 0"
+        sharerun_ends "$(times $((l - 1)) 0)1"
+    done
+    # With 16 named variables a _ is the seventeenth, and all words grow wider.
+    writes 'vars 16\n***************1\nX1 = f(_)' "17 2 $(wide 98304 131071)$(wide 32768 65536)1 2 1 2 $(head_of 1 1) 17"
+    writes "vars 29\nX1 = f(_, _, _)" "32 3 $(wide 4294967295 4294967295 4294967295)\
+$(wide 536870912 1073741824 2147483648)1 4 1 4 $(head_of 1 3) 30 31 32"
 }
 
 free_words() {
@@ -107,4 +128,12 @@ most_words() {
     run input "$file"
     same "bytes at the limits" 3336 "$(wc -c <"$out")"
     same "sharerun at the limits" "eq 64 entries" "$("$sharerun" <"$out" | grep '^eq' | tail -n 1 | cut -d ' ' -f 1-3)"
+    # The same with 32 variables: more bytes than the 4096 that were enough for 16.
+    sed -i "s/^vars 3/vars 32/; s/^10\*/10$(times 29 0)*/" "$file"
+    run input "$file"
+    same "bytes at the limits of 32 variables" 4360 "$(wc -c <"$out")"
+    same "sharerun at the limits of 32 variables" "eq 64 entries" "$("$sharerun" <"$out" | grep '^eq' | tail -n 1 | cut -d ' ' -f 1-3)"
+    # sharerun reads 8192 bytes, here with an l of 0; one byte more is torn before anything else is looked at.
+    same "8192 bytes to sharerun" "refused 2" "$(head -c 8192 /dev/zero | "$sharerun")"
+    same "8193 bytes to sharerun" "refused 1" "$(head -c 8193 /dev/zero | "$sharerun")"
 }

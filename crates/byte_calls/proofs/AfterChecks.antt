@@ -21,7 +21,7 @@ use Rattle.tables.proofs.Numbers.{refused-numbered, accepted-numbered, test-num
 use Rattle.terms.specs.Checks.{most-tokens, Written, one-term, two-terms}
 use Rattle.operations.specs.Operations.{equation-call, unify-call, written-call}
 use Rattle.codec.specs.Numbers.{numbers, with-zeros}
-use Rattle.codec.proofs.Laws.{length-numbers}
+use Rattle.codec.proofs.Laws.{length-words}
 use Rattle.forms.specs.declared.Extent.the-variants.{Whole}
 use Rattle.forms.specs.TableForms.{read-table}
 use Rattle.forms.proofs.Tests.{held}
@@ -114,7 +114,7 @@ pub tokens-taken : (b : List ℕ) {row : List ℕ} → row ≡ with-zeros most-t
     → take (length b / 2) row ≡ tokens-of b
 unfolding tokens-of with-zeros
 tokens-taken b filled =
-    rw filled (take-at (numbers (length b / 2) b) _ (length b / 2) (length-numbers (length b / 2) b))
+    rw filled (take-at (numbers (length b / 2) b) _ (length b / 2) (length-words 2 (length b / 2) b))
 
 module _ (side : Side) (t : Table) (x : ℕ) (b : List ℕ) where
   pub term-table-refused : {r : Refusal} → check-table t ≡ Refused r → refuses r t ≡ term-call side t x b

@@ -1,5 +1,5 @@
 -- The two-buffer call: one law for each way that it ends. Assumes nothing.
-use mathlib.Core.Path.{_≡_, refl, sym, ap, ap₂, _∙_}
+use mathlib.Core.Path.{_≡_, sym, ap, ap₂, _∙_}
 use mathlib.Core.Bool.{true, false, cond}
 use mathlib.Core.List.{List}
 use Prim.Native.Nat.{ℕ, _≤_, _<_}
@@ -10,21 +10,21 @@ use Rattle.tables.specs.declared.Refusal.{Refusal}
 use Rattle.tables.specs.declared.Answer.the-variants.{Accepted, Refused}
 use Rattle.tables.specs.declared.Answered.{Answered}
 use Rattle.tables.specs.Refusals.{if-accepted}
-use Rattle.tables.specs.Values.{accepts}
 use Rattle.forms.specs.declared.Layout.the-variants.{Plain}
 use Rattle.forms.specs.declared.Extent.the-variants.{Front}
-use Rattle.forms.specs.TableForms.{sized, second-size, table-length, fits, read-table}
-use Rattle.forms.proofs.Tests.{reads-passed}
+use Rattle.forms.specs.TableForms.{sized, second-size, read-table}
+use Rattle.forms.proofs.Reading.{read-passed}
 use Rattle.byte_calls.specs.BufferParts.{Part, front, form, smaller-part}
 
--- what a form that reads at the front of a buffer has
-pub front-room : (b : List ℕ) {a : Answered} → a ≡ read-table Front b → a .answer ≡ Accepted
-    → (4 ≤ length b) × (table-length (second-size b) ≤ length b)
-unfolding sized fits
-front-room b {a} read e =
-    let is : a ≡ accepts (a .table) = λ i. record { answer = e i; table = a .table } in
-    let p = reads-passed Plain Front b (accepts (a .table)) refl (sym read ∙ is) .0 in
-    (leb-true 4 (length b) (p .sizes), leb-true (table-length (second-size b)) (length b) (p .long))
+-- a form that reads at the front of a buffer
+pub front-reads : (b : List ℕ) {a : Answered} → a ≡ read-table Front b → a .answer ≡ Accepted
+    → read-table Front b .answer ≡ Accepted
+front-reads b read e = ap (λ (a : Answered). a .answer) (sym read) ∙ e
+
+-- its sizes are there
+pub front-sized : (b : List ℕ) → read-table Front b .answer ≡ Accepted → 4 ≤ length b
+unfolding sized
+front-sized b e = leb-true 4 (length b) (read-passed Plain Front b e .sizes)
 
 module _ (p q : Part) {a b : Answered} (ea : a ≡ read-table Front (p .bytes)) (eb : b ≡ read-table Front (q .bytes)) where
   -- the part, from what was read
@@ -54,16 +54,10 @@ module _ (p q : Part) {a b : Answered} (ea : a ≡ read-table Front (p .bytes)) 
 
       module _ (same : a .table .l ≡ b .table .l) {m n : ℕ} (em : m ≡ second-size (p .bytes))
           (en : n ≡ second-size (q .bytes)) where
-        pub fewer-negative : n < m → front (table-length n) q ≡ smaller-part p q
+        -- the form with fewer entries, by the counts written
+        pub by-count : (n < m → form q ≡ smaller-part p q) × (m ≤ n → form p ≡ smaller-part p q)
         unfolding if-accepted
-        fewer-negative lt =
-            let less : ltb (second-size (q .bytes)) (second-size (p .bytes)) ≡ true = rw (← em, ← en) (lt-ltb n m lt) in
-            let g = as-read in
-            ap (λ (k : ℕ). front (table-length k) q) en ∙ rw (good, too, eq-eqb (a .table .l) (b .table .l) same, less) at g
-
-        pub fewer-positive : m ≤ n → front (table-length m) p ≡ smaller-part p q
-        unfolding if-accepted
-        fewer-positive le =
-            let less : ltb (second-size (q .bytes)) (second-size (p .bytes)) ≡ false = rw (← em, ← en) (le-ltb n m le) in
-            let g = as-read in
-            ap (λ (k : ℕ). front (table-length k) p) em ∙ rw (good, too, eq-eqb (a .table .l) (b .table .l) same, less) at g
+        by-count =
+            let g = rw (good, too, eq-eqb (a .table .l) (b .table .l) same) at as-read in
+            let counts : ltb (second-size (q .bytes)) (second-size (p .bytes)) ≡ ltb n m = rw (em, en) in
+            (λ lt. rw (counts ∙ lt-ltb n m lt) at g, λ le. rw (counts ∙ le-ltb n m le) at g)

@@ -7,7 +7,7 @@ use lib.ListN.{take}
 use denote.Ref.{RefT}
 use Rattle.tables.specs.Refusals.{if-accepted}
 use Rattle.forms.specs.declared.Extent.the-variants.{Front}
-use Rattle.forms.specs.TableForms.{second-size, table-length, read-table}
+use Rattle.forms.specs.TableForms.{second-size, front-length, read-table}
 
 -- A part of a buffer: where it stands, and its bytes.
 pub record Part : Type 0 where
@@ -22,9 +22,9 @@ lent r = record { place = r .ptr; bytes = r .now }
 abbrev pub front : ℕ → Part → Part
 front k p = record { place = p .place; bytes = take k (p .bytes) }
 
--- The form that a part begins with, tail cut: its length goes by the n written.
+-- The form that a part begins with, tail cut: its length goes by the sizes written.
 abbrev pub form : Part → Part
-form p = front (table-length (second-size (p .bytes))) p
+form p = front (front-length (p .bytes)) p
 
 -- The form with fewer entries by the n written; equal ones give the positive. Where either does not read or their l differ, an
 -- empty part; the papers leave free where an empty part stands, and it is the place of the positive buffer.

@@ -61,9 +61,9 @@ pub fn smaller<'a>(p: &'a [u8], q: &'a [u8]) -> &'a [u8]
                 let m = codec::number_at(p, 2) as usize;
                 let n = codec::number_at(q, 2) as usize;
                 if n < m {
-                    return &q[..4 + 4 * n];
+                    return &q[..forms::front_length(q)];
                 }
-                &p[..4 + 4 * m]
+                &p[..forms::front_length(p)]
             }
         },
     }

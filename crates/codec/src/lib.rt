@@ -1,9 +1,10 @@
-// 16-bit numbers in byte buffers, low byte first. Inner: not a public call.
+// Numbers in byte buffers, low byte first: of 16 bits, and words of 16 or 32. Inner: not a public call.
 ghost use mathlib.Core.Path.{_≡_};
 ghost use Prim.Native.Nat.{_+_, _*_, _≤_, _<_};
 ghost use lib.ListN.{length, take, drop};
 ghost use lib.Seq.{sets};
-ghost use Rattle.codec.specs.Numbers.{number-at, numbers, sum, pair, bytes, with-zeros};
+ghost use Rattle.codec.specs.Numbers.{number-at, word-at, numbers, sum, with-zeros};
+ghost use Rattle.codec.specs.Numbers.{WordSize, word-bytes, bytes};
 
 // Room for the most tokens that an equation, or a list of equations, has.
 pub const TOKENS: usize = 1024;
@@ -21,6 +22,18 @@ pub fn number_at(b: &[u8], at: usize) -> u16
     ensures { λ r. ⌜ r ≡ number-at (now (b .entry)) at ⌝ }
 {
     wide(b[at]) + 256 * wide(b[at + 1])
+}
+
+// The word of k bytes that stands at an index.
+pub fn word_at(b: &[u8], at: usize, k: usize) -> u32
+    requires { ⌜ WordSize k × (at + k ≤ length (now b)) ⌝ }
+    ensures { λ r. ⌜ r ≡ word-at k (now (b .entry)) at ⌝ }
+{
+    let low = number_at(b, at) as u32;
+    if k == 2 {
+        return low;
+    }
+    low + 65536 * (number_at(b, at + 2) as u32)
 }
 
 // The n numbers from an index on, then zeros: tokens.
@@ -55,22 +68,33 @@ pub fn sum_at(b: &[u8], at: usize, n: usize) -> usize
 // Stores a number, cut to 16 bits, at an index.
 pub fn write_number(b: &mut [u8], at: usize, w: u32)
     requires { ⌜ at + 1 < length (now b) ⌝ }
-    ensures { λ _. ⌜ now (b .exit) ≡ sets (now (b .entry)) at (pair w) ⌝ }
+    ensures { λ _. ⌜ now (b .exit) ≡ sets (now (b .entry)) at (word-bytes 2 w) ⌝ }
 {
     b[at] = (w % 256) as u8;
     b[at + 1] = (w / 256 % 256) as u8;
 }
 
-// Stores the first n numbers from an index on.
-pub fn write_words(b: &mut [u8], at: usize, ws: &[u32; 256], n: usize)
-    requires { ⌜ (n ≤ 256) × (at + 2 * n ≤ length (now b)) ⌝ }
-    ensures { λ _. ⌜ now (b .exit) ≡ sets (now (b .entry)) at (bytes (take n (now (ws .entry)))) ⌝ }
+// Stores a word of k bytes at an index.
+fn write_word(b: &mut [u8], at: usize, k: usize, w: u32)
+    requires { ⌜ WordSize k × (at + k ≤ length (now b)) ⌝ }
+    ensures { λ _. ⌜ now (b .exit) ≡ sets (now (b .entry)) at (word-bytes k w) ⌝ }
+{
+    write_number(b, at, w);
+    if k == 4 {
+        write_number(b, at + 2, w / 65536);
+    }
+}
+
+// Stores the first n words, k bytes for each, from an index on.
+pub fn write_words(b: &mut [u8], at: usize, k: usize, ws: &[u32; 256], n: usize)
+    requires { ⌜ WordSize k × (n ≤ 256) × (at + k * n ≤ length (now b)) ⌝ }
+    ensures { λ _. ⌜ now (b .exit) ≡ sets (now (b .entry)) at (bytes k (take n (now (ws .entry)))) ⌝ }
 {
     // As a slice its length is known.
     let s: &[u32] = ws;
     let mut i = 0;
     while i < n {
-        write_number(b, at + 2 * i, s[i]);
+        write_word(b, at + k * i, k, s[i]);
         i += 1;
     }
 }

@@ -20,8 +20,8 @@ use Rattle.tables.specs.Values.{refuses, made-or-full, GoodTable}
 use Rattle.terms.specs.Checks.{Written}
 use Rattle.terms.specs.Checks as C
 use Rattle.operations.specs.Operations.{side-numbered, written-call}
-use Rattle.codec.specs.Numbers.{numbers}
-use Rattle.codec.proofs.Laws.{length-numbers}
+use Rattle.codec.specs.Numbers.{rows}
+use Rattle.codec.proofs.Laws.{length-words}
 use Rattle.forms.specs.declared.Layout.the-variants.{Plain}
 use Rattle.forms.specs.declared.Extent.the-variants.{Whole}
 use Rattle.equation_forms.specs.declared.Left.{Left}
@@ -51,7 +51,7 @@ module _ (f : Left) (side : ℕ) (b q : List ℕ) where
 
     -- A run of no equations is accepted, with the table that was read.
     pub run-of-none : check-equations f (t .l) q ≡ Accepted → first-size q ≡ 0 → run-state f side b q ≡ state 0 side 0 t
-    unfolding equations-of share-out numbers run-from
+    unfolding equations-of share-out rows run-from
     run-of-none e empty =
         sym (run-goes f side b q (sym reads) refl e)
         ∙ ap (λ (k : ℕ). run-from side t 0 (equations-of f k (second-size q) q)) empty
@@ -68,8 +68,8 @@ shared-out f (x ∷ xs) (c ∷ cs) ts h = ap suc (shared-out f xs cs (drop (span
 pub equations-many : (f : Left) (e m : ℕ) (b : List ℕ) → length (equations-of f e m b) ≡ e
 unfolding equations-of
 equations-many f e m b =
-    let many = length-numbers e (drop 4 b) in
-    shared-out f (lefts e b) (counts e b) (all-tokens e m b) (many ∙ sym (length-numbers e (drop (4 + 2 * e) b))) ∙ many
+    let many = length-words 2 e (drop 4 b) in
+    shared-out f (lefts e b) (counts e b) (all-tokens e m b) (many ∙ sym (length-words 2 e (drop (4 + 2 * e) b))) ∙ many
 
 -- equations that pass their checks: the first reads, and the rest pass
 first-reads : (l : ℕ) (w : Written) (ws : List Written) → check-each l (w ∷ ws) ≡ Accepted

@@ -28,7 +28,7 @@ use Rattle.tables.specs.declared.Answer.{Answer}
 use Rattle.tables.specs.declared.Answer.the-variants.{Accepted, Refused}
 use Rattle.tables.specs.declared.Answered.{Answered}
 use Rattle.tables.specs.Refusals.{if-accepted}
-use Rattle.tables.specs.Values.{table-of, entries-of, refuses, made-or-full, good-width, GoodTable}
+use Rattle.tables.specs.Values.{most-variables, table-of, entries-of, refuses, made-or-full, good-width, GoodTable}
 use Rattle.tables.proofs.Values.{entries-of-table, table-of-good}
 use Rattle.tables.proofs.Checking.{good-passes}
 use Rattle.tables.proofs.Tests.{both-true}
@@ -103,7 +103,7 @@ checked-first side t (two-terms ss ts) good = rw (good-passes t good)
 -- l is not 0.
 pub width-some : (l : ℕ) → good-width l ≡ true → 0 < l
 unfolding good-width
-width-some l w = ltb-true 0 l (both-true (ltb 0 l) (leb l 16) w .0)
+width-some l w = ltb-true 0 l (both-true (ltb 0 l) (leb l most-variables) w .0)
 
 module _ (side : Side) (t : Table) (w : Written) (good : GoodTable t) where
   abbrev call : Answered

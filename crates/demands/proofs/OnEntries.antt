@@ -31,10 +31,10 @@ use Rattle.terms.specs.Checks.{Written}
 use Rattle.terms.specs.Checks as C
 use Rattle.operations.specs.Operations.{side-numbered, written-call}
 use Rattle.operations.specs.Outcomes.{groups-of}
-use Rattle.codec.specs.Numbers.{numbers, sum}
+use Rattle.codec.specs.Numbers.{number, rows, sum}
 use Rattle.forms.specs.declared.Layout.the-variants.{Plain}
 use Rattle.forms.specs.declared.Extent.the-variants.{Front}
-use Rattle.forms.specs.TableForms.{sized, table-length, fits, written-entries, all-well, read-entries, read-sized}
+use Rattle.forms.specs.TableForms.{sized, word-length, table-length, fits, written-entries, all-well, read-entries, read-sized}
 use Rattle.forms.specs.TableForms.{read-form, read-table, table-form}
 use Rattle.equation_forms.specs.EquationForms.{spans, share-out, equations-of, check-each, check-sized, check-equations}
 use Rattle.forms.proofs.ReadsBack.{written-reads}
@@ -54,7 +54,7 @@ use Rattle.demands.proofs.ReadsBack.{equation-reads}
 
 -- Reading the tokens of a term, from bytes too.
 unfoldable pub tokens-read : Unit {0}
-unfolding C.if-read read-row under-head read-within read-term whole-term _>>=_ tokens-of written-tokens numbers
+unfolding C.if-read read-row under-head read-within read-term whole-term _>>=_ tokens-of written-tokens number rows
 tokens-read = tt
 
 -- The checks of an equation, which read its terms.
@@ -72,9 +72,14 @@ unfoldable pub equations-read : Unit {0}
 unfolding term-checks sized sum spans share-out equations-of check-each check-sized check-equations
 equations-read = tt
 
+-- the words of entries in bytes
+unfoldable words-read : Unit {0}
+unfolding number rows word-length string pairs strings
+words-read = tt
+
 -- the entries of a table in bytes
 unfoldable entries-read : Unit {0}
-unfolding procedures string pairs strings numbers clean all-from all-clean all-well written-entries read-entries made-or-full
+unfolding procedures words-read clean all-from all-clean all-well written-entries read-entries made-or-full
 entries-read = tt
 
 -- Reading a table from bytes.
@@ -166,7 +171,7 @@ module _ (side : Side) {l : ℕ} (width : good-width l ≡ true) {τ : Entries} 
 
   -- on the form of the table, with its terms as bytes, into an output with room
   module _ (reduced : Reduced τ) (out : List ℕ) (passes : check-all-bytes w ≡ Accepted)
-      (reads : C.check-written l (written-tokens w) ≡ C.reads s) (room : table-length (length ρ) ≤ length out) where
+      (reads : C.check-written l (written-tokens w) ≡ C.reads s) (room : table-length l (length ρ) ≤ length out) where
     abbrev form : List ℕ
     form = table-form (table-of l τ)
 

@@ -7,7 +7,7 @@ use lib.ListN.{length, take, drop, length-drop, drop-of-length-le}
 use lib.Seq.{take-nil, take-take, drop-drop, length-take-le}
 use Rattle.terms.specs.Checks.{Written, one-term, two-terms, most-tokens}
 use Rattle.codec.specs.Numbers.{numbers, sum}
-use Rattle.codec.proofs.Laws.{length-numbers}
+use Rattle.codec.proofs.Laws.{length-words, words-from, words-drop, words-take}
 use Rattle.equation_forms.specs.declared.Cursor.{Cursor}
 use Rattle.equation_forms.specs.declared.Left.{Left}
 use Rattle.equation_forms.specs.declared.Left.the-variants.{Variable, Term}
@@ -15,7 +15,6 @@ use Rattle.forms.specs.TableForms.{second-size}
 use Rattle.equation_forms.specs.EquationForms.{lefts, counts, all-tokens, span, spans, equation-of, share-out, equations-of}
 use Rattle.equation_forms.specs.EquationForms.{equations-in, GoodSizes, On, start, Here, Past, left-at, count-at, span-at}
 use Rattle.equation_forms.specs.EquationForms.{tokens-at, this, after, rest}
-use Rattle.forms.proofs.Rows.{row-from, numbers-drop, numbers-take}
 
 -- ---- The tokens of one equation
 
@@ -47,14 +46,14 @@ module _ {f : Left} {c : Cursor} {b : List ℕ} (on : On f c b) where
   unfolding rest share-out
   rest-none past =
       ap (λ (r : List ℕ). share-out f r (drop (c .k) (counts (c .e) b)) (drop (c .at) (all-tokens (c .e) (second-size b) b)))
-      (drop-of-length-le (lefts (c .e) b) {i = c .k} (omega (arith, past, length-numbers (c .e) (drop 4 b))))
+      (drop-of-length-le (lefts (c .e) b) {i = c .k} (omega (arith, past, length-words 2 (c .e) (drop 4 b))))
 
   module _ (here : Here c) where
     lefts-from : drop (c .k) (lefts (c .e) b) ≡ left-at c b ∷ drop (c .k + 1) (lefts (c .e) b)
-    lefts-from = row-from (c .e) 4 (c .k) b here
+    lefts-from = words-from 2 (c .e) 4 (c .k) b here
 
     counts-from : drop (c .k) (counts (c .e) b) ≡ count-at c b ∷ drop (c .k + 1) (counts (c .e) b)
-    counts-from = row-from (c .e) (4 + 2 * c .e) (c .k) b here
+    counts-from = words-from 2 (c .e) (4 + 2 * c .e) (c .k) b here
 
     on-tokens : c .at + span-at f c b + sum (spans f (drop (c .k + 1) (lefts (c .e) b)) (drop (c .k + 1) (counts (c .e) b)))
         ≡ second-size b
@@ -89,8 +88,8 @@ module _ {f : Left} {c : Cursor} {b : List ℕ} (on : On f c b) where
         let n = span-at f c b in
         let half : length (tokens-at f c b) / 2 ≡ n = omega (arith, tokens-long) in
         rw half
-        (ap (take n) (numbers-drop (c .at) (second-size b) (drop (4 + 4 * c .e) b) (omega (arith, tokens-within)))
-        ∙ numbers-take n (second-size b - c .at) (drop (2 * c .at) (drop (4 + 4 * c .e) b)) (omega (arith, tokens-within))
+        (ap (take n) (words-drop 2 (c .at) (second-size b) (drop (4 + 4 * c .e) b) (omega (arith, tokens-within)))
+        ∙ words-take 2 n (second-size b - c .at) (drop (2 * c .at) (drop (4 + 4 * c .e) b)) (omega (arith, tokens-within))
         (omega (arith, tokens-room, length-drop (4 + 4 * c .e) b, length-drop (2 * c .at) (drop (4 + 4 * c .e) b)))
         ∙ ap (λ (r : List ℕ). numbers n (take (2 * n) r)) (drop-drop (2 * c .at) (4 + 4 * c .e) b))
 

@@ -9,7 +9,7 @@ use lib.ListN.{length, take, length-append, length-take}
 use Rattle.tables.specs.declared.Refusal.the-variants as R
 use Rattle.tables.specs.declared.Answer.the-variants.{Accepted, Refused}
 use Rattle.terms.specs.Checks.{most-tokens}
-use Rattle.codec.specs.Numbers.{numbers, sum}
+use Rattle.codec.specs.Numbers.{number, rows, sum}
 use Rattle.equation_forms.specs.declared.Left.{Left}
 use Rattle.forms.specs.TableForms.{sized, first-size, second-size}
 use Rattle.equation_forms.specs.EquationForms.{most-equations, equations-length, spans, share-out, equations-of}
@@ -46,5 +46,5 @@ equations-longer f l b e y c =
 
 -- The form of no equations is accepted.
 pub no-equations : (f : Left) (l : ℕ) → check-equations f l (0 ∷ 0 ∷ 0 ∷ 0 ∷ []) ≡ Accepted
-unfolding check-equations check-sized sized sum numbers spans equations-of share-out check-each
+unfolding check-equations check-sized sized sum number rows spans equations-of share-out check-each
 no-equations f l = refl

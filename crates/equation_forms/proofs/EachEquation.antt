@@ -14,7 +14,7 @@ use Rattle.terms.specs.Checks.{Outcome, reads, refuses, if-read, check-equation
 use Rattle.terms.specs.Checks.{check-answer, checked, most-tokens}
 use Rattle.terms.proofs.Checking.{checked-reads, checked-refuses}
 use Rattle.codec.specs.Numbers.{numbers, with-zeros}
-use Rattle.codec.proofs.Laws.{length-numbers}
+use Rattle.codec.proofs.Laws.{length-words}
 use Rattle.equation_forms.specs.declared.Cursor.{Cursor}
 use Rattle.equation_forms.specs.declared.Left.{Left}
 use Rattle.equation_forms.specs.declared.Left.the-variants as L
@@ -49,7 +49,7 @@ module _ {f : Left} {c : Cursor} {b : List ℕ} {x : ℕ} {part row : List ℕ} 
       rw (h .left, h .filled, h .is)
       (sym (own-tokens f (left-at c b) (count-at c b) _)
       ∙ ap (equation-of f (left-at c b) (count-at c b))
-      (take-at (numbers n (tokens-at f c b)) _ (span-at f c b) (length-numbers n (tokens-at f c b) ∙ e)))
+      (take-at (numbers n (tokens-at f c b)) _ (span-at f c b) (length-words 2 n (tokens-at f c b) ∙ e)))
 
   -- With a variable on the left they are those of the term.
   pub one-term-read : f ≡ L.Variable → one-term x (take (length part / 2) row) ≡ this f c b

@@ -13,13 +13,12 @@ use Rattle.tables.specs.declared.Answer.the-variants.{Refused}
 use Rattle.tables.proofs.Tests.{both-true}
 use Rattle.terms.specs.Checks.{most-tokens}
 use Rattle.codec.specs.Numbers.{numbers, sum}
-use Rattle.codec.proofs.Laws.{length-numbers}
+use Rattle.codec.proofs.Laws.{length-words, words-sum}
 use Rattle.equation_forms.specs.declared.Left.{Left}
 use Rattle.equation_forms.specs.declared.Left.the-variants.{Variable, Term}
 use Rattle.forms.specs.TableForms.{sized, first-size, second-size}
 use Rattle.equation_forms.specs.EquationForms.{most-equations, equations-length, lefts, counts, spans, equations-in, check-each}
 use Rattle.equation_forms.specs.EquationForms.{tokens-counted, check-sized, check-equations, GoodSizes}
-use Rattle.forms.proofs.Rows.{numbers-sum}
 
 -- ---- The counts of equations
 
@@ -41,7 +40,7 @@ spans-term (x ∷ xs) (c ∷ cs) h = omega (arith, spans-term xs cs (omega arith
 
 module _ (e : ℕ) (b : List ℕ) where
   same-long : length (lefts e b) ≡ length (counts e b)
-  same-long = length-numbers e (drop 4 b) ∙ sym (length-numbers e (drop (4 + 2 * e) b))
+  same-long = length-words 2 e (drop 4 b) ∙ sym (length-words 2 e (drop (4 + 2 * e) b))
 
   -- The second row is summed,
   pub counted-right : sum (numbers e (drop (4 + 2 * e) b)) ≡ tokens-counted Variable e b
@@ -52,7 +51,7 @@ module _ (e : ℕ) (b : List ℕ) where
   counted-both =
       let d : 2 * e ≡ e + e = omega arith in
       ap (λ (n : ℕ). sum (numbers n (drop 4 b))) d
-      ∙ numbers-sum e e (drop 4 b)
+      ∙ words-sum 2 e e (drop 4 b)
       ∙ ap (λ (r : List ℕ). sum (lefts e b) + sum (numbers e r)) (drop-drop (2 * e) 4 b)
       ∙ sym (spans-term (lefts e b) (counts e b) same-long)
 

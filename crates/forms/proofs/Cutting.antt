@@ -1,12 +1,11 @@
 -- Forms that are cut short or followed by more bytes. Assumes nothing.
-use mathlib.Core.Path.{_≡_, refl}
+use mathlib.Core.Path.{_≡_, refl, sym, ap, _∙_}
 use mathlib.Core.Bool.{Bool, true, false, cond}
 use mathlib.Core.List.{List, _∷_, _++_}
 use Prim.Native.Nat.{ℕ, _+_, _*_, _≤_, _<_}
 use native.Mathlib.Omega.{arith}
 use borrow.Author.Tests.{leb-true, eqb-true, lt-leb, le-leb, ne-eqb}
-use lib.ListN.{length, getD, take, length-append, length-take, List·getD-append}
-use lib.Seq.{getD-take}
+use lib.ListN.{length, take, drop, length-append, length-take, take-append-drop}
 use Rattle.tables.specs.declared.Table.{Table}
 use Rattle.tables.specs.declared.Refusal.the-variants as R
 use Rattle.tables.specs.Values.{zero-table, accepts, refuses}
@@ -14,12 +13,12 @@ use Rattle.forms.specs.declared.Extent.{Extent}
 use Rattle.forms.specs.declared.Extent.the-variants.{Whole, Front}
 use Rattle.forms.specs.declared.Layout.{Layout}
 use Rattle.forms.specs.declared.Layout.the-variants.{Plain, Packed}
-use Rattle.forms.specs.TableForms.{sized, first-size, second-size, form-length, fits}
+use Rattle.forms.specs.TableForms.{sized, first-size, second-size, word-length, form-length, fits}
 use Rattle.forms.specs.TableForms.{written-entries, all-well, read-entries, read-sized, read-form}
 use Rattle.forms.specs.TableForms.{Passed}
 use Rattle.packing.specs.Packing.{row-length}
-use Rattle.forms.proofs.Rows.{numbers-within}
-use Rattle.forms.proofs.PackedRows.{rows-within}
+use Rattle.codec.proofs.Rows.{rows-within}
+use Rattle.codec.proofs.Laws.{word-within, words-within}
 use Rattle.forms.proofs.Tests.{grown-table, reads-passed}
 
 -- ---- The sizes at the front
@@ -28,20 +27,17 @@ use Rattle.forms.proofs.Tests.{grown-table, reads-passed}
 abbrev pub Sizes : List ℕ → List ℕ → Type 0
 Sizes c b = (first-size c ≡ first-size b) × (second-size c ≡ second-size b)
 
-four-bytes : (c b : List ℕ) → ((i : ℕ) → i < 4 → getD c i 0 ≡ getD b i 0) → Sizes c b
-four-bytes c b f = (rw (f 0 (omega arith), f 1 (omega arith)), rw (f 2 (omega arith), f 3 (omega arith)))
-
-pub cut-sizes : (b : List ℕ) (k : ℕ) → sized (take k b) ≡ true → Sizes (take k b) b
-unfolding sized
-cut-sizes b k s =
-    let h : 4 ≤ k = omega (arith, leb-true 4 (length (take k b)) s, length-take k b) in
-    four-bytes (take k b) b (λ i lt. getD-take k b i 0 (omega arith))
-
 pub longer-sizes : (b c : List ℕ) → sized b ≡ true → Sizes (b ++ c) b
 unfolding sized
 longer-sizes b c s =
     let h = leb-true 4 (length b) s in
-    four-bytes (b ++ c) b (λ i lt. List·getD-append b c 0 i (omega arith))
+    (word-within 2 b c 0 (omega arith), word-within 2 b c 2 (omega arith))
+
+pub cut-sizes : (b : List ℕ) (k : ℕ) → sized (take k b) ≡ true → Sizes (take k b) b
+cut-sizes b k s =
+    let same = longer-sizes (take k b) (drop k b) s in
+    let whole = take-append-drop k b in
+    (sym (same .0) ∙ ap first-size whole, sym (same .1) ∙ ap second-size whole)
 
 -- no sizes, or sizes by which it is torn
 pub torn-by : {A : Type 0} (s : Bool) (a torn : A) → (s ≡ true → a ≡ torn) → cond s a torn ≡ torn
@@ -92,8 +88,9 @@ followed : (f : Layout) (l n : ℕ) (b c : List ℕ) → form-length f l n ≤ l
     → (written-entries f l n (b ++ c) ≡ written-entries f l n b) × (all-well f l n (b ++ c) ≡ all-well f l n b)
 unfolding written-entries all-well
 followed Plain l n b c room =
-    let cs = numbers-within 4 n b c (omega arith) in
-    let vs = numbers-within (4 + 2 * n) n b c (omega arith) in
+    let k : ℕ = word-length l in
+    let cs = words-within 4 k n b c (omega arith) in
+    let vs = words-within (4 + k * n) k n b c (omega arith) in
     (rw (cs, vs), rw (cs, vs))
 followed Packed l n b c room = let rs = rows-within 4 (row-length l) n b c room in (rw rs, rw rs)
 

@@ -1,5 +1,5 @@
+pub mod WordLengths
 pub mod Outcomes
-pub mod Rows
 pub mod PackedRows
 pub mod Tests
 pub mod Reading

@@ -16,15 +16,16 @@ use Rattle.tables.specs.declared.Answer.the-variants.{Accepted, Refused}
 use Rattle.tables.specs.Refusals.{if-accepted}
 use Rattle.tables.specs.Values.{entries-of, good-width, zero-table, refuses, check-table, GoodTable}
 use Rattle.tables.proofs.Checking.{good-few, good-long, good-holds}
-use Rattle.codec.specs.Numbers.{pair, bytes}
-use Rattle.codec.proofs.Laws.{length-bytes, bytes-append, sets-append}
+use Rattle.codec.specs.Numbers.{word-bytes, joined, bytes}
+use Rattle.codec.proofs.Rows.{sets-append}
+use Rattle.codec.proofs.Laws.{length-bytes, bytes-append}
 use Rattle.packing.specs.Packing.{row-length}
 use Rattle.forms.specs.declared.Extent.{Extent}
 use Rattle.forms.specs.declared.Extent.the-variants.{Whole, Front}
 use Rattle.forms.specs.declared.Layout.{Layout}
 use Rattle.forms.specs.declared.Layout.the-variants.{Plain, Packed}
-use Rattle.forms.specs.TableForms.{sized, first-size, second-size, form-length, fits, read-entries, read-sized, read-form}
-use Rattle.forms.specs.TableForms.{entry-bytes, form-of, form-answer, written}
+use Rattle.forms.specs.TableForms.{sized, first-size, second-size, word-length, form-length, fits}
+use Rattle.forms.specs.TableForms.{read-entries, read-sized, read-form, entry-bytes, form-of, form-answer, written}
 use Rattle.forms.proofs.PackedRows.{rows-length}
 
 -- ---- Reading a table
@@ -40,7 +41,7 @@ module _ (f : Layout) (x : Extent) (b : List ℕ) where
     unfolding read-form sized
     as-sized = rw (le-leb 4 (length b) room, el, en)
 
-    -- An l outside 1 to 16: 2.
+    -- An l outside 1 to 32: 2.
     pub read-width : good-width l ≡ false → refuses R.Width zero-table ≡ read-form f x b
     unfolding read-sized
     read-width w = rw (as-sized, w)
@@ -91,38 +92,41 @@ module _ (f : Layout) (t : Table) (out : List ℕ) where
 
 module _ (t : Table) (g : GoodTable t) where
   -- the first words of an array of a good table
-  words-long : (ws : List ℕ) → length ws ≡ limit → length (bytes (take (t .n) ws)) ≡ 2 * t .n
-  words-long ws long =
-      length-bytes (take (t .n) ws) ∙ ap (λ (k : ℕ). 2 * k) (length-take-le (t .n) ws (omega (arith, good-few g, long)))
+  words-long : (k : ℕ) (ws : List ℕ) → length ws ≡ limit → length (bytes k (take (t .n) ws)) ≡ k * t .n
+  words-long k ws long =
+      length-bytes k (take (t .n) ws)
+      ∙ ap (λ (n : ℕ). k * n) (length-take-le (t .n) ws (omega (arith, good-few g, long)))
 
   -- The bytes of a good table's entries, beside the sizes.
   pub entry-bytes-long : (f : Layout) → 4 + length (entry-bytes f t) ≡ form-length f (t .l) (t .n)
   unfolding entry-bytes
   entry-bytes-long Plain =
+      let k : ℕ = word-length (t .l) in
       let cs = take (t .n) (t .care) in
       let vs = take (t .n) (t .value) in
-      ap (λ (b : List ℕ). 4 + length b) (bytes-append cs vs)
+      ap (λ (b : List ℕ). 4 + length b) (bytes-append k cs vs)
       ∙ omega (
         arith,
-        length-append (bytes cs) (bytes vs),
-        words-long (t .care) (good-long g .0),
-        words-long (t .value) (good-long g .1),
+        length-append (bytes k cs) (bytes k vs),
+        words-long k (t .care) (good-long g .0),
+        words-long k (t .value) (good-long g .1),
       )
   entry-bytes-long Packed =
       let count : length (entries-of t) ≡ t .n = sym (good-holds g .count) in
       ap (λ (k : ℕ). 4 + k)
-      (rows-length (t .l) (entries-of t) (g .list .wide) ∙ ap (λ (k : ℕ). k * row-length (t .l)) count)
+      (rows-length (t .l) (entries-of t) (g .list .wide) ∙ ap (λ (n : ℕ). row-length (t .l) * n) count)
 
   -- The form of a good table has the length that its sizes give.
   pub form-long : (f : Layout) → length (form-of f t) ≡ form-length f (t .l) (t .n)
-  unfolding form-of bytes
+  unfolding form-of joined word-bytes
   form-long f = omega (arith, entry-bytes-long f)
 
   -- Where there is room the stores of the sizes and the entries are the form, and the bytes past it are kept.
   pub stored : (f : Layout) (out : List ℕ) → form-length f (t .l) (t .n) ≤ length out
-      → sets (sets (sets out 0 (pair (t .l))) 2 (pair (t .n))) 4 (entry-bytes f t) ≡ written Accepted (form-of f t) out
-  unfolding form-of bytes written if-accepted
+      → sets (sets (sets out 0 (word-bytes 2 (t .l))) 2 (word-bytes 2 (t .n))) 4 (entry-bytes f t)
+      ≡ written Accepted (form-of f t) out
+  unfolding form-of joined word-bytes written if-accepted
   stored f out room =
-      sym (sets-append (bytes (t .l ∷ t .n ∷ [])) (entry-bytes f t) out 0)
+      sym (sets-append (bytes 2 (t .l ∷ t .n ∷ [])) (entry-bytes f t) out 0)
       ∙ sets-eq (form-of f t) out 0 (omega (arith, form-long f))
       ∙ ap (λ (k : ℕ). form-of f t ++ drop k out) (zero-add (length (form-of f t)))

@@ -24,6 +24,7 @@ use Rattle.words.specs.Words.{string}
 use Rattle.words.proofs.Codec.{string-length}
 use Rattle.tables.specs.declared.Table.{Table}
 use Rattle.tables.specs.declared.Refusal.the-variants as R
+use Rattle.tables.specs.declared.Answer.the-variants.{Accepted}
 use Rattle.tables.specs.declared.Answered.{Answered}
 use Rattle.tables.specs.Refusals.{answer-number}
 use Rattle.tables.specs.Lists.{strings, pairs}
@@ -35,7 +36,8 @@ use Rattle.forms.specs.declared.Layout.{Layout}
 use Rattle.forms.specs.declared.Layout.the-variants.{Plain, Packed}
 use Rattle.forms.specs.TableForms.{first-size, second-size, form-length, cares, values, packed-rows}
 use Rattle.forms.specs.TableForms.{written-entries, read-form, Passed}
-use Rattle.forms.proofs.PackedRows.{rows-count, rows-wide}
+use Rattle.codec.proofs.Rows.{rows-count}
+use Rattle.forms.proofs.PackedRows.{rows-wide}
 use Rattle.forms.proofs.Outcomes.{fits-room}
 use Rattle.forms.proofs.Tests.{entries-in, grown-table, reads-passed}
 
@@ -49,14 +51,14 @@ strings-wide l (w ∷ ws) = (string-length l w, strings-wide l ws)
 -- The entries that are written have l positions.
 pub entries-wide : (f : Layout) (l n : ℕ) (b : List ℕ) → form-length f l n ≤ length b → Wide l (written-entries f l n b)
 unfolding written-entries strings
-entries-wide Plain l n b room = strings-wide l (take n (pairs (cares n b) (values n b)))
+entries-wide Plain l n b room = strings-wide l (take n (pairs (cares l n b) (values l n b)))
 entries-wide Packed l n b room = rows-wide l n (drop 4 b) (omega (arith, length-drop 4 b))
 
 -- There are no more than n.
 entries-most : (f : Layout) (l n : ℕ) (b : List ℕ) → length (written-entries f l n b) ≤ n
 unfolding written-entries strings
 entries-most Plain l n b =
-    let ws = pairs (cares n b) (values n b) in
+    let ws = pairs (cares l n b) (values l n b) in
     omega (arith, length-map (take n ws) (string l), length-take n ws)
 entries-most Packed l n b =
     omega (arith, length-map (packed-rows l n b) (unpacked l), rows-count (row-length l) n (drop 4 b))
@@ -75,6 +77,12 @@ module _ {f : Layout} {x : Extent} {b : List ℕ} (p : Passed f x b) where
       omega (arith, leb-true (second-size b) limit (p .few), entries-most f (first-size b) (second-size b) b) in
       let g = never-full (entries-in f b) few in
       (g .0, g .1, rw (g .1))
+
+-- A form that reads has passed its tests.
+pub read-passed : (f : Layout) (x : Extent) (b : List ℕ) → read-form f x b .answer ≡ Accepted → Passed f x b
+read-passed f x b e =
+    let t = read-form f x b .table in
+    reads-passed f x b (accepts t) refl (λ i. record { answer = e i; table = t }) .0
 
 -- ---- The table that was read
 

@@ -25,36 +25,35 @@ use Rattle.tables.specs.Values.{table-of, entries-of, accepts, made-or-full, ze
 use Rattle.tables.proofs.Arrays.{stores-at, stores-length}
 use Rattle.tables.proofs.Checking.{good-holds, width-most}
 use Rattle.packing.specs.Packing.{row-length, packed}
-use Rattle.codec.specs.Numbers.{numbers, bytes}
-use Rattle.codec.proofs.Laws.{length-bytes, bytes-append, Narrow, number-pair, numbers-bytes}
+use Rattle.codec.specs.Numbers.{rows, words, word-bytes, joined, bytes}
+use Rattle.codec.proofs.Laws.{length-bytes, bytes-append, Narrow, number-back, words-back}
 use Rattle.forms.specs.declared.Extent.the-variants.{Whole, Front}
 use Rattle.forms.specs.declared.Layout.{Layout}
 use Rattle.forms.specs.declared.Layout.the-variants.{Plain, Packed}
-use Rattle.forms.specs.TableForms.{sized, first-size, second-size, form-length, fits, cares, values, rows, packed-rows}
+use Rattle.forms.specs.TableForms.{sized, first-size, second-size, word-length, form-length, fits, cares, values, packed-rows}
 use Rattle.forms.specs.TableForms.{written-entries, all-well, read-form, read-table, read-packed, Passed}
 use Rattle.forms.specs.TableForms.{rows-of, entry-bytes, form-of, table-form, packed-form, written}
+use Rattle.forms.proofs.WordLengths.{positions-fit}
 use Rattle.forms.proofs.Tests.{entries-in, passed-reads}
 use Rattle.forms.proofs.Reading.{entries-grow, read-groups}
 use Rattle.forms.proofs.Cutting.{table-followed}
 use Rattle.forms.proofs.Outcomes.{entry-bytes-long, form-long}
-use Rattle.forms.proofs.PackedRows.{rows-back, packed-rows-good, packed-rows-back}
+use Rattle.forms.proofs.PackedRows.{packed-rows-read, packed-rows-good, packed-rows-back}
 
 -- ---- Rows of words
 
-narrow-take : (n : ℕ) (ws : List ℕ) → ((i : ℕ) → i < n → getD ws i 0 < 65536) → Narrow (take n ws)
-narrow-take zero ws f = tt
-narrow-take (suc n) [] f = tt
-narrow-take (suc n) (w ∷ ws) f = (f 0 (omega arith), narrow-take n ws (λ i lt. f (suc i) (omega arith)))
-
-numbers-back : (n : ℕ) (ws rest : List ℕ) → length ws ≡ n → Narrow ws → numbers n (bytes ws ++ rest) ≡ ws
-numbers-back n ws rest e h = rw (← e) (numbers-bytes ws rest h)
+narrow-take : (k n : ℕ) (ws : List ℕ) → ((i : ℕ) → i < n → getD ws i 0 < 2 ^ (8 * k)) → Narrow k (take n ws)
+narrow-take k zero ws f = tt
+narrow-take k (suc n) [] f = tt
+narrow-take k (suc n) (w ∷ ws) f = (f 0 (omega arith), narrow-take k n ws (λ i lt. f (suc i) (omega arith)))
 
 -- the second of two rows
-numbers-second : (n : ℕ) (us ws : List ℕ) → length us ≡ n → length ws ≡ n → Narrow ws
-    → numbers n (drop (2 * n) (bytes us ++ bytes ws)) ≡ ws
-numbers-second n us ws e f h =
-    ap (numbers n) (drop-at (bytes us) (bytes ws) (2 * n) (omega (arith, e, length-bytes us)) ∙ sym (append-nil (bytes ws)))
-    ∙ numbers-back n ws [] f h
+words-second : (k n : ℕ) (us ws : List ℕ) → length us ≡ n → length ws ≡ n → Narrow k ws
+    → words k n (drop (k * n) (bytes k us ++ bytes k ws)) ≡ ws
+words-second k n us ws e f h =
+    ap (words k n) (drop-at (bytes k us) (bytes k ws) (k * n) (length-bytes k us ∙ ap (λ (m : ℕ). k * m) e)
+    ∙ sym (append-nil (bytes k ws)))
+    ∙ words-back k n ws [] f h
 
 pairs-take : (n : ℕ) (cs vs : List ℕ) → take n (pairs (take n cs) (take n vs)) ≡ take n (pairs cs vs)
 unfolding pairs
@@ -91,18 +90,18 @@ module _ {l : ℕ} {care value : List ℕ} {n : ℕ} {τ : Entries} (h : Stores 
       let vs : n ≤ length value = rw (h .arrays .values, length-map ws) room in
       (length-take-le n care cs, length-take-le n value vs)
 
-  rows-narrow : l ≤ 16 → Narrow (take n care) × Narrow (take n value)
-  rows-narrow most = (
-    narrow-take n care (λ i lt. omega (arith, below i lt, care-lt (at i), ap (λ (e : Entry). e .care) (stores-at h i lt))),
-    narrow-take n value
+  rows-narrow : (k : ℕ) → l ≤ 8 * k → Narrow k (take n care) × Narrow k (take n value)
+  rows-narrow k most = (
+    narrow-take k n care (λ i lt. omega (arith, below i lt, care-lt (at i), ap (λ (e : Entry). e .care) (stores-at h i lt))),
+    narrow-take k n value
         (λ i lt. omega (arith, below i lt, value-lt (at i), ap (λ (e : Entry). e .value) (stores-at h i lt))),
   )
     where
       at : ℕ → Trits
       at i = getD τ i []
 
-      below : (i : ℕ) → i < n → 2 ^ length (at i) ≤ 2 ^ 16
-      below i lt = pow-mono {j = 16} (omega (arith, stores-length h i lt))
+      below : (i : ℕ) → i < n → 2 ^ length (at i) ≤ 2 ^ (8 * k)
+      below i lt = pow-mono {j = 8 * k} (omega (arith, stores-length h i lt))
 
   rows-clean : all-clean l n (take n care) (take n value) ≡ true
   unfolding all-clean
@@ -122,37 +121,43 @@ module _ {l : ℕ} {care value : List ℕ} {n : ℕ} {τ : Entries} (h : Stores 
 module _ (t : Table) (g : GoodTable t) where
   -- its sizes
   form-width : (f : Layout) → first-size (form-of f t) ≡ t .l
-  unfolding form-of bytes
-  form-width f = number-pair (t .l) (omega (arith, width-most (t .l) (g .width)))
+  unfolding form-of joined word-bytes
+  form-width f = number-back 2 (t .l) (omega (arith, width-most (t .l) (g .width)))
 
   form-count : (f : Layout) → second-size (form-of f t) ≡ t .n
-  unfolding form-of bytes
-  form-count f = number-pair (t .n) (omega (arith, good-holds g .count, g .list .few))
+  unfolding form-of joined word-bytes
+  form-count f = number-back 2 (t .n) (omega (arith, good-holds g .count, g .list .few))
 
   -- the words of a plain one
-  form-words : drop 4 (form-of Plain t) ≡ bytes (take (t .n) (t .care)) ++ bytes (take (t .n) (t .value))
-  unfolding form-of entry-bytes bytes
-  form-words = bytes-append (take (t .n) (t .care)) (take (t .n) (t .value))
+  abbrev size : ℕ
+  size = word-length (t .l)
 
-  form-cares : cares (t .n) (form-of Plain t) ≡ take (t .n) (t .care)
+  form-words : drop 4 (form-of Plain t) ≡ bytes size (take (t .n) (t .care)) ++ bytes size (take (t .n) (t .value))
+  unfolding form-of entry-bytes joined word-bytes
+  form-words = bytes-append size (take (t .n) (t .care)) (take (t .n) (t .value))
+
+  form-narrow : Narrow size (take (t .n) (t .care)) × Narrow size (take (t .n) (t .value))
+  form-narrow = rows-narrow (good-holds g) size (positions-fit (t .l) (width-most (t .l) (g .width)))
+
+  form-cares : cares (t .l) (t .n) (form-of Plain t) ≡ take (t .n) (t .care)
   form-cares =
-      let h = good-holds g in
-      ap (numbers (t .n)) form-words
-      ∙ numbers-back (t .n) _ _ (rows-long h .0) (rows-narrow h (width-most (t .l) (g .width)) .0)
+      ap (words size (t .n)) form-words
+      ∙ words-back size (t .n) _ _ (rows-long (good-holds g) .0) (form-narrow .0)
 
-  form-values : values (t .n) (form-of Plain t) ≡ take (t .n) (t .value)
+  form-values : values (t .l) (t .n) (form-of Plain t) ≡ take (t .n) (t .value)
   form-values =
       let h = good-holds g in
-      ap (numbers (t .n)) (sym (drop-drop (2 * t .n) 4 (form-of Plain t)) ∙ ap (drop (2 * t .n)) form-words)
-      ∙ numbers-second (t .n) _ _ (rows-long h .0) (rows-long h .1) (rows-narrow h (width-most (t .l) (g .width)) .1)
+      ap (words size (t .n))
+      (sym (drop-drop (size * t .n) 4 (form-of Plain t)) ∙ ap (drop (size * t .n)) form-words)
+      ∙ words-second size (t .n) (take (t .n) (t .care)) _ (rows-long h .0) (rows-long h .1) (form-narrow .1)
 
   -- the rows of a packed one
   form-rows : packed-rows (t .l) (t .n) (form-of Packed t) ≡ map packed (entries-of t)
-  unfolding form-of entry-bytes bytes
+  unfolding form-of entry-bytes joined word-bytes
   form-rows =
       let τ = entries-of t in
       ap₂ (rows (row-length (t .l))) (good-holds g .count) (sym (append-nil (rows-of τ)))
-      ∙ rows-back (t .l) τ [] (g .list .wide)
+      ∙ packed-rows-read (t .l) τ [] (g .list .wide)
 
   -- it holds the table's entries
   written-same : (f : Layout) → written-entries f (t .l) (t .n) (form-of f t) ≡ entries-of t

@@ -1,9 +1,10 @@
 -- The written forms of a table: sizes l and n, then the entries. A plain form has n care words, then n value words (01, "Written
--- form" and "Refusals"); a packed one a row of bytes for each entry, five positions to a byte (02, request 1).
+-- form" and "Refusals"), of 16 bits for up to 16 variables and of 32 above (02, request 5); a packed one a row of bytes for
+-- each entry, five positions to a byte (02, request 1).
 use mathlib.Core.Path.{_≡_}
 use mathlib.Core.Bool.{Bool, true, _&&_, cond}
 use mathlib.Core.List.{List, [], _∷_, _++_, map}
-use Prim.Native.Nat.{ℕ, zero, suc, _+_, _*_}
+use Prim.Native.Nat.{ℕ, _+_, _*_}
 use lib.Dec.{leb, eqb}
 use lib.ListN.{length, take, drop}
 use Rattle.model.specs.Growth.{Entries, limit, grow-all}
@@ -16,7 +17,7 @@ use Rattle.tables.specs.declared.Answered.{Answered}
 use Rattle.tables.specs.Refusals.{refusal-number, if-accepted}
 use Rattle.tables.specs.Lists.{strings}
 use Rattle.tables.specs.Values.{entries-of, good-width, all-clean, zero-table, refuses, made-or-full, check-table}
-use Rattle.codec.specs.Numbers.{number-at, numbers, bytes}
+use Rattle.codec.specs.Numbers.{number-at, rows, words, joined, bytes}
 use Rattle.packing.specs.Packing.{row-length, packed, unpacked, good-row}
 use Rattle.forms.specs.declared.Extent.{Extent}
 use Rattle.forms.specs.declared.Extent.the-variants.{Whole, Front}
@@ -37,14 +38,22 @@ first-size b = number-at b 0
 abbrev pub second-size : List ℕ → ℕ
 second-size b = number-at b 2
 
--- The length of the plain form of n entries.
-abbrev pub table-length : ℕ → ℕ
-table-length n = 4 + 4 * n
+-- How many bytes a care or value word of entries of l positions has: two up to 16 positions, four above.
+unfoldable pub word-length : ℕ → ℕ
+word-length l = cond (leb l 16) 2 4
+
+-- The length of the plain form of n entries of l positions: n care and n value words.
+abbrev pub table-length : ℕ → ℕ → ℕ
+table-length l n = 4 + 2 * (word-length l * n)
 
 -- The length of a form of n entries of l positions: packed, each takes l/5 bytes, rounded up.
 abbrev pub form-length : Layout → ℕ → ℕ → ℕ
-form-length Plain l n = table-length n
-form-length Packed l n = 4 + n * row-length l
+form-length Plain l n = table-length l n
+form-length Packed l n = 4 + row-length l * n
+
+-- The length of the plain form at the front of bytes, by the sizes written.
+abbrev pub front-length : List ℕ → ℕ
+front-length b = table-length (first-size b) (second-size b)
 
 -- The size is right: exactly what the sizes give, or, where more may follow, not too short.
 unfoldable pub fits : Extent → ℕ → ℕ → Bool
@@ -53,18 +62,13 @@ fits Front size room = leb size room
 
 -- ---- The entries
 
--- The n care words.
-abbrev pub cares : ℕ → List ℕ → List ℕ
-cares n b = numbers n (drop 4 b)
+-- The n care words of entries of l positions.
+abbrev pub cares : ℕ → ℕ → List ℕ → List ℕ
+cares l n b = words (word-length l) n (drop 4 b)
 
--- The n value words.
-abbrev pub values : ℕ → List ℕ → List ℕ
-values n b = numbers n (drop (4 + 2 * n) b)
-
--- The first n rows of k bytes.
-unfoldable pub rows : ℕ → ℕ → List ℕ → List (List ℕ)
-rows k zero b = []
-rows k (suc n) b = take k b ∷ rows k n (drop k b)
+-- The n value words, which follow them.
+abbrev pub values : ℕ → ℕ → List ℕ → List ℕ
+values l n b = words (word-length l) n (drop (4 + word-length l * n) b)
 
 -- The n packed rows of entries of l positions.
 abbrev pub packed-rows : ℕ → ℕ → List ℕ → List (List ℕ)
@@ -77,12 +81,12 @@ all-good l (row ∷ rs) = good-row l row && all-good l rs
 
 -- The entries that are written, as strings of l positions.
 unfoldable pub written-entries : Layout → ℕ → ℕ → List ℕ → Entries
-written-entries Plain l n b = strings l (cares n b) (values n b) n
+written-entries Plain l n b = strings l (cares l n b) (values l n b) n
 written-entries Packed l n b = map (unpacked l) (packed-rows l n b)
 
 -- Each entry is well written: no bit above l and no value without care; or no byte of 243 or more and every unused digit 0.
 unfoldable pub all-well : Layout → ℕ → ℕ → List ℕ → Bool
-all-well Plain l n b = all-clean l n (cares n b) (values n b)
+all-well Plain l n b = all-clean l n (cares l n b) (values l n b)
 all-well Packed l n b = all-good l (packed-rows l n b)
 
 -- The refusal of an entry that is not: 12 takes the place of 4 for packed rows.
@@ -135,18 +139,17 @@ pub record Passed (f : Layout) (x : Extent) (b : List ℕ) : Type 0 where
 -- ---- Writing
 
 -- The packed rows of entries, one after the other.
-unfoldable pub rows-of : Entries → List ℕ
-rows-of [] = []
-rows-of (s ∷ τ) = packed s ++ rows-of τ
+abbrev pub rows-of : Entries → List ℕ
+rows-of τ = joined (map packed τ)
 
 -- The bytes of a table's entries as they are.
 unfoldable pub entry-bytes : Layout → Table → List ℕ
-entry-bytes Plain t = bytes (take (t .n) (t .care) ++ take (t .n) (t .value))
+entry-bytes Plain t = bytes (word-length (t .l)) (take (t .n) (t .care) ++ take (t .n) (t .value))
 entry-bytes Packed t = rows-of (entries-of t)
 
 -- The bytes of a table's form.
 unfoldable pub form-of : Layout → Table → List ℕ
-form-of f t = bytes (t .l ∷ t .n ∷ []) ++ entry-bytes f t
+form-of f t = bytes 2 (t .l ∷ t .n ∷ []) ++ entry-bytes f t
 
 -- The plain form.
 abbrev pub table-form : Table → List ℕ

@@ -16,7 +16,14 @@ ghost use Rattle.tables.specs.Lists.{Stores, strings};
 ghost use Rattle.tables.specs.Values.{GoodTable, zero-table, made-or-full};
 ghost use Rattle.lists.specs.WorkingLists.{Holds};
 ghost use Rattle.forms.specs.declared.Layout.the-variants.{Plain, Packed};
-ghost use Rattle.forms.specs.TableForms.{table-length, form-length, written-entries, all-well, read-entries, rows-of, entry-bytes};
+ghost use Rattle.forms.specs.TableForms.{word-length, form-length, written-entries, all-well, read-entries, rows-of, entry-bytes};
+
+// How many bytes a care or value word of entries of l positions has: so many that each position has a bit.
+pub fn word_length(l: u32) -> usize
+    ensures { λ r. ⌜ r ≡ word-length l ⌝ }
+{
+    if l <= 16 { 2 } else { 4 }
+}
 
 // Reads the n written entries of a plain form as words. Is each clean: no bit above l, no value without care?
 fn read_words(l: u32, n: usize, b: &[u8], row: &mut [u64; 256]) -> bool
@@ -26,12 +33,14 @@ fn read_words(l: u32, n: usize, b: &[u8], row: &mut [u64; 256]) -> bool
 {
     // As a slice its length is known.
     let whole: &[u64] = &*row;
+    let k = word_length(l);
     let full = words::full(l);
     let mut good = true;
     let mut i = 0;
     while i < n {
-        let c = codec::number_at(b, 4 + 2 * i) as u32;
-        let v = codec::number_at(b, 4 + 2 * n + 2 * i) as u32;
+        let at = 4 + k * i;
+        let c = codec::word_at(b, at, k);
+        let v = codec::word_at(b, at + k * n, k);
         good = good & ((c <= full) & ((v & c) == v));
         row[i] = words::word_of(Entry { care: c, value: v });
         i += 1;
@@ -52,7 +61,7 @@ fn read_rows(l: u32, n: usize, b: &[u8], row: &mut [u64; 256]) -> bool
     let mut good = true;
     let mut i = 0;
     while i < n {
-        let at = 4 + i * k;
+        let at = 4 + k * i;
         let read = packing::unpack(&table, l, &b[at..at + k]);
         good = good & read.good;
         row[i] = words::word_of(read.entry);
@@ -107,16 +116,18 @@ pub fn read(layout: Layout, l: u32, n: usize, b: &[u8]) -> Answered
 }
 
 // Writes the words of n plain entries after the sizes.
-fn write_plain<'a>(care: &'a [u32; 256], value: &'a [u32; 256], n: usize, out: &mut [u8])
-    requires { ⌜ (n ≤ 256) × (table-length n ≤ length (now out)) ⌝ }
+fn write_plain<'a>(l: u32, care: &'a [u32; 256], value: &'a [u32; 256], n: usize, out: &mut [u8])
+    requires { ⌜ (n ≤ 256) × (form-length Plain l n ≤ length (now out)) ⌝ }
     ensures { λ _. ⌜
-        now (out .exit) ≡ sets (now (out .entry)) 4 (bytes (take n (now (care .entry)) ++ take n (now (value .entry))))
+        now (out .exit)
+        ≡ sets (now (out .entry)) 4 (bytes (word-length l) (take n (now (care .entry)) ++ take n (now (value .entry))))
         ⌝ }
 {
     // As a slice its length is known.
     let cares: &[u32] = care;
-    codec::write_words(out, 4, care, n);
-    codec::write_words(out, 4 + 2 * n, value, n);
+    let k = word_length(l);
+    codec::write_words(out, 4, k, care, n);
+    codec::write_words(out, 4 + k * n, k, value, n);
 }
 
 // Writes the rows of n packed entries after the sizes.
@@ -134,7 +145,7 @@ fn write_rows<'a>(l: u32, care: &'a [u32; 256], value: &'a [u32; 256], n: usize,
     while i < n {
         let c = care[i];
         let v = value[i];
-        packing::pack(l, Entry { care: c, value: v }, out, 4 + i * k);
+        packing::pack(l, Entry { care: c, value: v }, out, 4 + k * i);
         i += 1;
     }
 }
@@ -145,7 +156,7 @@ pub fn write(layout: Layout, t: Table, out: &mut [u8])
     ensures { λ _. ⌜ now (out .exit) ≡ sets (now (out .entry)) 4 (entry-bytes layout t) ⌝ }
 {
     match layout {
-        Layout::Plain => write_plain(&t.care, &t.value, t.n, out),
+        Layout::Plain => write_plain(t.l, &t.care, &t.value, t.n, out),
         Layout::Packed => write_rows(t.l, &t.care, &t.value, t.n, out),
     }
 }

@@ -1,4 +1,4 @@
-// The written forms of tables: 16-bit numbers, low byte first, and packed rows. Public are `read_table`,
+// The written forms of tables: words of 16 or 32 bits, low byte first, and packed rows. Public are `read_table`,
 // `read_packed`, `write_table` and `write_packed`, from bytes to a table value and back. The rest is inner: not a public call.
 pub mod entries; // the entries of a table in a form, plain or packed
 
@@ -9,9 +9,10 @@ use tables::Table;
 ghost use mathlib.Core.Path.{_≡_};
 ghost use Prim.Native.Nat.{_≤_};
 ghost use lib.ListN.{length};
-ghost use Rattle.forms.specs.declared.Extent.the-variants.{Whole};
+ghost use Rattle.tables.specs.declared.Answer.the-variants.{Accepted};
+ghost use Rattle.forms.specs.declared.Extent.the-variants.{Whole, Front};
 ghost use Rattle.forms.specs.declared.Layout.the-variants.{Plain, Packed};
-ghost use Rattle.forms.specs.TableForms.{form-length, fits, read-form, form-of, form-answer, written};
+ghost use Rattle.forms.specs.TableForms.{form-length, front-length, fits, read-form, form-of, form-answer, written};
 
 // Where a form ends: it is all the bytes, or more may follow it.
 pub enum Extent {
@@ -19,7 +20,7 @@ pub enum Extent {
     Front,
 }
 
-// How a form has its entries: care and value words of 16 bits, or a row of bytes each, five positions to a byte.
+// How a form has its entries: care and value words, or a row of bytes each, five positions to a byte.
 pub enum Layout {
     Plain,
     Packed,
@@ -41,8 +42,8 @@ fn form_length(layout: Layout, l: u32, n: usize) -> usize
     ensures { λ r. ⌜ r ≡ form-length layout l n ⌝ }
 {
     match layout {
-        Layout::Plain => 4 + 4 * n,
-        Layout::Packed => 4 + n * packing::row_length(l),
+        Layout::Plain => 4 + 2 * (entries::word_length(l) * n),
+        Layout::Packed => 4 + packing::row_length(l) * n,
     }
 }
 
@@ -79,6 +80,17 @@ pub fn read_packed(b: &[u8]) -> Answered
     ensures { λ r. ⌜ r ≡ read-form Packed Whole (now (b .entry)) ⌝ }
 {
     read(Layout::Packed, Extent::Whole, b)
+}
+
+// The length of the plain form that reads at the front of bytes.
+pub fn front_length(b: &[u8]) -> usize
+    requires { ⌜ read-form Plain Front (now b) .answer ≡ Accepted ⌝ }
+    ensures length { λ r. ⌜ r ≡ front-length (now (b .entry)) ⌝ }
+    ensures within { λ r. ⌜ r ≤ length (now (b .entry)) ⌝ }
+{
+    let l = codec::number_at(b, 0) as u32;
+    let n = codec::number_at(b, 2) as usize;
+    form_length(Layout::Plain, l, n)
 }
 
 // Writes the entries of a table as they are: 2, 3, 4, then 9. A refusal writes nothing.

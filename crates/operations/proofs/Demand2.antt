@@ -29,7 +29,7 @@ use Rattle.tables.specs.declared.Answer.{Answer}
 use Rattle.tables.specs.declared.Answer.the-variants.{Accepted, Refused}
 use Rattle.tables.specs.declared.Answered.{Answered}
 use Rattle.tables.specs.Refusals.{if-accepted}
-use Rattle.tables.specs.Values.{table-of, entries-of, refuses, made-or-full, good-width, check-table, GoodTable}
+use Rattle.tables.specs.Values.{most-variables, table-of, entries-of, refuses, made-or-full, good-width, check-table, GoodTable}
 use Rattle.tables.proofs.Values.{entries-of-table, table-of-good}
 use Rattle.tables.proofs.Checking.{width-most, passes-good}
 use Rattle.tables.proofs.Tests.{both-true}
@@ -169,7 +169,7 @@ kept-some [] h = absurd h
 kept-some (true ∷ k) h = omega arith
 kept-some (false ∷ k) h = kept-some k h
 
--- A good set keeps 1 to 16 positions of a good width.
+-- A good set keeps 1 to 32 positions of a good width.
 pub kept-width : (l keep : ℕ) → good-width l ≡ true → good-keep l keep ≡ true → good-width (kept (set l keep)) ≡ true
 unfolding good-width good-keep
 kept-width l keep w h =
@@ -181,7 +181,7 @@ kept-width l keep w h =
     let most = kept-most k in
     let few = width-most l w in
     let long = set-length l keep in
-    rw (lt-ltb 0 (kept k) (kept-some k (rw nonempty tt)), le-leb (kept k) 16 (omega arith))
+    rw (lt-ltb 0 (kept k) (kept-some k (rw nonempty tt)), le-leb (kept k) most-variables (omega arith))
 
 pub projection-outcome : (side : Side) (t : Table) (keep : ℕ) → TableValue t → ProjectionOutcome side t keep
 unfolding projection-call projected

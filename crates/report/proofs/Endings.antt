@@ -238,7 +238,7 @@ module _ (input : List ℕ) where
 
   -- ---- What is returned, and what is written
 
-  -- No text is longer than 286000 bytes.
+  -- No text is longer than 552500 bytes.
   pub input-most : length (input-text input) ≤ most-text
   input-most = go sorted
     where
@@ -262,7 +262,7 @@ module _ (input : List ℕ) where
       go (full before w after g split a f run text) = rw run (omega arith)
 
   module _ (out : List ℕ) where
-    -- Into an output of 286000 bytes the whole text is written, and the state of the run is returned.
+    -- Into an output of 552500 bytes the whole text is written, and the state of the run is returned.
     pub report-whole : most-text ≤ length out
         → (report-of input out ≡ record { state = input-run input; size = length (input-text input) })
         × (report-bytes input out ≡ input-text input ++ drop (length (input-text input)) out)

@@ -11,7 +11,7 @@ use lib.Seq.{sets, sets-eq}
 use Rattle.tables.specs.declared.Refusal.{Refusal}
 use Rattle.tables.specs.declared.Refusal.the-variants as R
 use Rattle.tables.specs.Refusals.{refusal-number}
-use Rattle.codec.proofs.Laws.{sets-append}
+use Rattle.codec.proofs.Rows.{sets-append}
 use Rattle.text.specs.Text.{newline, decimal}
 use Rattle.running.specs.declared.Running.{Running}
 use Rattle.running.specs.States.{none-applied}

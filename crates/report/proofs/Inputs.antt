@@ -1,9 +1,9 @@
 -- What each way through an input comes to. Assumes nothing.
-use mathlib.Core.Path.{_≡_, refl, sym, ap, _∙_}
+use mathlib.Core.Path.{_≡_, sym, ap, _∙_}
 use mathlib.Core.List.{List}
-use Prim.Native.Nat.{ℕ, _+_, _-_, _*_, _≤_, _<_}
+use Prim.Native.Nat.{ℕ, _-_, _≤_, _<_}
 use native.Mathlib.Omega.{arith}
-use borrow.Author.Tests.{le-leb, lt-leb, leb-true}
+use borrow.Author.Tests.{le-leb, lt-leb}
 use lib.ListN.{length, take, drop, length-drop}
 use lib.Seq.{take-all, sets}
 use Rattle.tables.specs.declared.Table.{Table}
@@ -15,10 +15,9 @@ use Rattle.tables.specs.Refusals.{refusal-number, if-accepted}
 use Rattle.tables.specs.Values.{accepts, GoodTable}
 use Rattle.forms.specs.declared.Layout.the-variants.{Plain}
 use Rattle.forms.specs.declared.Extent.the-variants.{Front}
-use Rattle.forms.specs.TableForms.{second-size, table-length, fits, read-table}
+use Rattle.forms.specs.TableForms.{front-length, read-table}
 use Rattle.equation_forms.specs.declared.Left.the-variants.{Variable}
 use Rattle.equation_forms.specs.EquationForms.{equations-in, check-equations}
-use Rattle.forms.proofs.Tests.{reads-passed}
 use Rattle.forms.proofs.Reading.{read-good}
 use Rattle.running.specs.declared.Running.{Running}
 use Rattle.running.specs.States.{none-applied, run-from, run-on}
@@ -77,7 +76,7 @@ module _ (t : Table) (q : List ℕ) where
 -- ---- An input
 
 module _ (input : List ℕ) where
-  -- More than 4096 bytes: 1 is reported.
+  -- More than 8192 bytes: 1 is reported.
   pub input-long : most-input < length input
       → (none-applied (refusal-number R.Torn) 0 ≡ input-run input)
       × (refused-text (refusal-number R.Torn) ≡ input-text input)
@@ -85,11 +84,10 @@ module _ (input : List ℕ) where
   input-long h = (rw (lt-leb (length input) most-input h), rw (lt-leb (length input) most-input h))
 
   -- the part of the input after the table
-  pub input-rest : (n : ℕ) → n ≡ second-size input
-      → take (length input - (4 + 4 * n)) (drop (4 + 4 * n) input) ≡ after-table input
-  input-rest n e =
-      take-all (length input - (4 + 4 * n)) (drop (4 + 4 * n) input) (omega (arith, length-drop (4 + 4 * n) input))
-      ∙ ap (λ (k : ℕ). drop (4 + 4 * k) input) e
+  pub input-rest : {end : ℕ} → end ≡ front-length input → take (length input - end) (drop end input) ≡ after-table input
+  input-rest {end} e =
+      take-all (length input - end) (drop end input) (omega (arith, length-drop end input))
+      ∙ ap (λ (k : ℕ). drop k input) e
 
   module _ (few : length input ≤ most-input) {a : Answered} (read : a ≡ read-table Front input) where
     -- A table that does not read: only the number is reported.
@@ -101,18 +99,13 @@ module _ (input : List ℕ) where
         (rw (le-leb (length input) most-input few, f), rw (le-leb (length input) most-input few, f))
 
     module _ (e : a .answer ≡ Accepted) where
-      reads : read-table Front input ≡ accepts (a .table)
+      -- the table that reads
+      pub reads : read-table Front input ≡ accepts (a .table)
       reads = sym read ∙ λ i. record { answer = e i; table = a .table }
 
       -- A table that reads is good.
       pub input-good : GoodTable (a .table)
       input-good = read-good Plain Front input (a .table) reads .0
-
-      -- the table's form is there
-      pub input-room : 4 + 4 * second-size input ≤ length input
-      unfolding fits
-      input-room = leb-true (table-length (second-size input)) (length input)
-          (reads-passed Plain Front input (accepts (a .table)) refl reads .0 .long)
 
       -- Then the rest decides.
       pub input-goes : (run-on Variable 0 (a .table) (after-table input) ≡ input-run input)

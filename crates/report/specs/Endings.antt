@@ -24,7 +24,7 @@ use Rattle.report.specs.Reports.{most-input, after-table, refused-text, 
 
 -- ---- The input
 
--- Why an input is refused before any equation is applied: more than 4096 bytes (1); else a table that does not read; else
+-- Why an input is refused before any equation is applied: more than 8192 bytes (1); else a table that does not read; else
 -- equations that do not pass their checks.
 pub data InputRefused (input : List ℕ) : Refusal → Type 0 where
   long : most-input < length input → InputRefused input R.Torn

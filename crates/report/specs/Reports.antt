@@ -9,7 +9,7 @@ use Rattle.tables.specs.declared.Table.{Table}
 use Rattle.tables.specs.declared.Refusal.the-variants as R
 use Rattle.tables.specs.Refusals.{refusal-number, if-accepted}
 use Rattle.forms.specs.declared.Extent.the-variants.{Front}
-use Rattle.forms.specs.TableForms.{second-size, table-length, read-table}
+use Rattle.forms.specs.TableForms.{front-length, read-table}
 use Rattle.terms.specs.Checks.{Written}
 use Rattle.equation_forms.specs.declared.Left.the-variants.{Variable}
 use Rattle.equation_forms.specs.EquationForms.{equations-in, check-equations}
@@ -22,13 +22,13 @@ use Rattle.text.specs.RunTexts.{run-text}
 
 -- ---- The input
 
--- At most 4096 bytes of input.
+-- At most 8192 bytes of input (01 had 4096; 02, request 5).
 abbrev pub most-input : ℕ
-most-input = 4096
+most-input = 8192
 
 -- The bytes after the table.
 abbrev pub after-table : List ℕ → List ℕ
-after-table input = drop (table-length (second-size input)) input
+after-table input = drop (front-length input) input
 
 -- ---- The text
 
@@ -42,7 +42,7 @@ rest-text t q =
     if-accepted (check-equations Variable (t .l) q) (λ r. refused-text (refusal-number r))
     (run-text t (equations-in Variable q))
 
--- The text of an input: above 4096 bytes is 1 before any other check; then the table, which more may follow; then the
+-- The text of an input: above 8192 bytes is 1 before any other check; then the table, which more may follow; then the
 -- equations, which are exactly the rest.
 unfoldable pub input-text : List ℕ → List ℕ
 input-text input =

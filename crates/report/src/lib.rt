@@ -17,10 +17,10 @@ ghost use Rattle.report.specs.Reports.{refused-text, narrowed, fitted, r
 ghost use Rattle.report.specs.Reports.{rest-text, report-of, report-bytes};
 
 // The most bytes of an input (most-input).
-const INPUT: usize = 4096;
+const INPUT: usize = 8192;
 
 // No text of a run has more bytes (most-text).
-const TEXT: usize = 286000;
+const TEXT: usize = 552500;
 
 // The length of the word `refused `.
 const REFUSED: usize = 8;
@@ -95,7 +95,7 @@ fn report_rest(t: Table, q: &[u8], out: &mut [u8]) -> Reported
     }
 }
 
-// Reads a positive table and then equations, runs them, and writes what the run says: above 4096 bytes is 1 before any
+// Reads a positive table and then equations, runs them, and writes what the run says: above 8192 bytes is 1 before any
 // other check; where the text does not fit nothing is written.
 pub fn report(input: &[u8], out: &mut [u8]) -> Reported
     ensures answer { λ r. ⌜ r ≡ report-of (now (input .entry)) (now (out .entry)) ⌝ }
@@ -110,8 +110,8 @@ pub fn report(input: &[u8], out: &mut [u8]) -> Reported
     match answer {
         Answer::Refused(r) => refuse(r, out),
         Answer::Accepted => {
-            let n = codec::number_at(input, 2) as usize;
-            report_rest(t, &input[4 + 4 * n..], out)
+            let end = forms::front_length(input);
+            report_rest(t, &input[end..], out)
         }
     }
 }

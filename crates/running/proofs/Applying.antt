@@ -15,13 +15,12 @@ use Rattle.tables.specs.Refusals.{refusal-number, if-accepted}
 use Rattle.terms.specs.Checks.{most-tokens, Written, one-term, two-terms}
 use Rattle.operations.specs.Operations.{side-numbered, written-call}
 use Rattle.codec.specs.Numbers.{numbers}
-use Rattle.codec.proofs.Laws.{length-numbers}
+use Rattle.codec.proofs.Laws.{length-words, words-drop, words-take}
 use Rattle.equation_forms.specs.declared.Cursor.{Cursor}
 use Rattle.equation_forms.specs.declared.Left.{Left}
 use Rattle.equation_forms.specs.declared.Left.the-variants as L
 use Rattle.equation_forms.specs.EquationForms.{span, equation-of, equations-in, GoodSizes, On, start, Here, Past}
 use Rattle.equation_forms.specs.EquationForms.{left-at, count-at, span-at, tokens-at, this, after, rest}
-use Rattle.forms.proofs.Rows.{numbers-drop, numbers-take}
 use Rattle.equation_forms.proofs.Cursors.{on-start, rest-start, rest-none, on-next, rest-next, tokens-long, tokens-few}
 use Rattle.byte_calls.specs.ByteCalls.{check-bytes, check-both-bytes, tokens-of, written-tokens, value-call}
 use Rattle.byte_calls.proofs.AfterChecks.{check-all-bytes, bytes-passed}
@@ -65,17 +64,17 @@ in-tokens : (f : Left) (x c : ℕ) (b : List ℕ) → length b ≡ 2 * span f x 
 unfolding written-tokens tokens-of
 in-tokens L.Variable x c b long =
     let h = even b c long in
-    rw (h .0) (ap (one-term x) (sym (take-all c (numbers c b) (omega (arith, length-numbers c b)))))
+    rw (h .0) (ap (one-term x) (sym (take-all c (numbers c b) (omega (arith, length-words 2 c b)))))
 in-tokens L.Term a c b long =
     let n = even b (a + c) long in
     let h = even (take (2 * a) b) a (length-take-le (2 * a) b (omega (arith, long))) in
     let k = even (drop (2 * a) b) c (omega (arith, length-drop (2 * a) b, long)) in
     let m : a + c - a ≡ c = omega arith in
     let back : drop a (numbers (a + c) b) ≡ numbers c (drop (2 * a) b) =
-    rw m at (numbers-drop a (a + c) b (omega arith)) in
-    rw (h .0, k .0, n .0, back, take-all c (numbers c (drop (2 * a) b)) (omega (arith, length-numbers c (drop (2 * a) b))))
+    rw m at (words-drop 2 a (a + c) b (omega arith)) in
+    rw (h .0, k .0, n .0, back, take-all c (numbers c (drop (2 * a) b)) (omega (arith, length-words 2 c (drop (2 * a) b))))
     (ap (λ (ts : List ℕ). two-terms ts (numbers c (drop (2 * a) b)))
-    (sym (numbers-take a (a + c) b (omega arith) (omega (arith, long)))))
+    (sym (words-take 2 a (a + c) b (omega arith) (omega (arith, long)))))
 
 -- The bytes of a left side are among them.
 pub left-within : {f : Left} {c : Cursor} {q : List ℕ} → On f c q → Here c → {x : ℕ} → x ≡ left-at c q

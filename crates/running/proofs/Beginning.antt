@@ -6,7 +6,7 @@ use Rattle.tables.specs.declared.Refusal.{Refusal}
 use Rattle.tables.specs.declared.Answer.the-variants.{Accepted, Refused}
 use Rattle.tables.specs.declared.Answered.{Answered}
 use Rattle.tables.specs.Refusals.{refusal-number, if-accepted}
-use Rattle.tables.specs.Values.{accepts}
+use Rattle.tables.specs.Values.{most-variables, accepts}
 use Rattle.tables.proofs.Checking.{width-most}
 use Rattle.forms.specs.declared.Layout.the-variants.{Plain}
 use Rattle.forms.specs.declared.Extent.the-variants.{Whole}
@@ -16,8 +16,8 @@ use Rattle.equation_forms.specs.EquationForms.{equations-in, check-equations}
 use Rattle.forms.proofs.Reading.{read-good}
 use Rattle.running.specs.States.{none-applied, run-from, run-on, run-state}
 
--- A table that was read has at most 16 variables.
-pub read-few : (b : List ℕ) {a : Answered} → a ≡ read-table Whole b → a .answer ≡ Accepted → a .table .l ≤ 16
+-- A table that was read has no more variables than a table may have.
+pub read-few : (b : List ℕ) {a : Answered} → a ≡ read-table Whole b → a .answer ≡ Accepted → a .table .l ≤ most-variables
 read-few b {a} is e =
     let good : a ≡ accepts (a .table) = λ i. record { answer = e i; table = a .table } in
     width-most (a .table .l) (read-good Plain Whole b (a .table) (sym is ∙ good) .0 .width)

@@ -3,10 +3,10 @@ use libc::STDIN_FILENO;
 use libc::STDOUT_FILENO;
 
 // One byte more than an input may have (most-input): what follows it cannot change the answer.
-const INPUT: usize = 4097;
+const INPUT: usize = 8193;
 
-// No text is longer than 65 tables of 256 lines of 17 bytes, each under a line of at most 25 (most-text).
-const TEXT: usize = 286000;
+// No text is longer than 65 tables of 256 lines of 33 bytes, each under a line of at most 25 (most-text).
+const TEXT: usize = 552500;
 
 fn main() {
     let mut input = [0u8; INPUT];

@@ -21,7 +21,7 @@ use Rattle.tables.specs.declared.Refusal.{Refusal}
 use Rattle.tables.specs.declared.Refusal.the-variants as R
 use Rattle.tables.specs.declared.Answer.the-variants.{Accepted, Refused}
 use Rattle.tables.specs.Lists.{zero-entry, padded, list-words, Stores, pairs, strings}
-use Rattle.tables.specs.Values.{clean, is-zero, entry-at, all-from, all-clean, zero-past, good-width, table-of}
+use Rattle.tables.specs.Values.{most-variables, clean, is-zero, entry-at, all-from, all-clean, zero-past, good-width, table-of}
 use Rattle.tables.specs.Values.{entries-of}
 use Rattle.tables.specs.Values.{check-table, GoodTable}
 use Rattle.tables.proofs.Arrays.{arrays-at, stores-at, stores-length}
@@ -234,9 +234,9 @@ good-passes t g =
     let h = good-holds g in
     rw (g .width, le-leb (t .n) limit (good-few g), holds-clean h, holds-zero h)
 
-pub width-most : (l : ℕ) → good-width l ≡ true → l ≤ 16
+pub width-most : (l : ℕ) → good-width l ≡ true → l ≤ most-variables
 unfolding good-width
-width-most l h = leb-true l 16 (both-true (ltb 0 l) (leb l 16) h .1)
+width-most l h = leb-true l most-variables (both-true (ltb 0 l) (leb l most-variables) h .1)
 
 -- ---- Both promises of the check, by its answer
 

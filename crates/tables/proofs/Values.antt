@@ -46,7 +46,7 @@ pub entries-of-table : (l : ℕ) (τ : Entries) → Good l τ → entries-of (ta
 unfolding table-of entries-of
 entries-of-table l τ g = stores-is (stores-table l τ g)
 
--- The table of a good list of strings of 1 to 16 positions is a good table value.
+-- The table of a good list of strings of 1 to 32 positions is a good table value.
 pub table-of-good : (l : ℕ) (τ : Entries) → good-width l ≡ true → Good l τ → GoodTable (table-of l τ)
 unfolding table-of
 table-of-good l τ w g =

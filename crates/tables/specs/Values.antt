@@ -18,9 +18,9 @@ use Rattle.tables.specs.declared.Answer.the-variants.{Accepted, Refused}
 use Rattle.tables.specs.declared.Answered.{Answered}
 use Rattle.tables.specs.Lists.{list-words, strings}
 
--- A table has 1 to 16 variables.
+-- A table has 1 to 32 variables (01 had 16; 02, request 5).
 abbrev pub most-variables : ℕ
-most-variables = 16
+most-variables = 32
 
 -- ---- The value of a list, and back
 
@@ -62,7 +62,7 @@ made-or-full l t none = refuses R.Full t
 
 -- ---- The check of a table value
 
--- l is 1 to 16.
+-- l is 1 to 32.
 unfoldable pub good-width : ℕ → Bool
 good-width l = ltb 0 l && leb l most-variables
 
@@ -100,7 +100,7 @@ check-table t =
     (Refused R.Entries))
     (Refused R.Width)
 
--- A good table value: the table of a good list of strings of 1 to 16 positions.
+-- A good table value: the table of a good list of strings of 1 to 32 positions.
 pub record GoodTable (t : Table) : Type 0 where
   pub width : good-width (t .l) ≡ true
   pub list : Good (t .l) (entries-of t)

@@ -81,7 +81,7 @@ impl Table {
     pub const ENTRIES: usize = 256;
 
     // The most variables of a table.
-    pub const VARIABLES: u32 = 16;
+    pub const VARIABLES: u32 = 32;
 
     // The table that a refusal returns where none came in.
     pub fn zero() -> Table
@@ -110,7 +110,7 @@ impl Table {
     }
 }
 
-// Is l one of 1 to 16?
+// Has a table so many variables: is l 1 to 32?
 pub fn good_width(l: u32) -> bool
     ensures { λ r. ⌜ r ≡ good-width l ⌝ }
 {

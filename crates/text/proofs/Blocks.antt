@@ -14,14 +14,14 @@ use Rattle.tables.specs.declared.Answer.the-variants.{Accepted, Refused}
 use Rattle.tables.specs.Refusals.{refusal-number}
 use Rattle.tables.specs.Values.{entries-of, GoodTable}
 use Rattle.tables.proofs.Checking.{good-few, width-most}
-use Rattle.codec.proofs.Laws.{sets-append}
+use Rattle.codec.proofs.Rows.{sets-append}
 use Rattle.text.specs.Text.{decimal, line, entries-text}
 use Rattle.text.proofs.Writing.{decimal-most, line-length, entries-length}
 use Rattle.text.specs.Lines.{eq, entries, refused, block, equation-text}
 
 -- The text of a table, or of an equation, has at most so many bytes.
 abbrev pub most-block : ℕ
-most-block = 4400
+most-block = 8500
 
 module _ (word : List ℕ) (a : ℕ) {t : Table} (good : GoodTable t) where
   -- The length of the text of a table, as the code computes it.
@@ -32,11 +32,11 @@ module _ (word : List ℕ) (a : ℕ) {t : Table} (good : GoodTable t) where
       length-append (line word a entries (t .n)) (entries-text (entries-of t))
       ∙ omega (arith, line-length word entries a (t .n), entries-length good)
 
-  -- at most 256 lines of 17 characters
-  pub entries-most : t .n * (t .l + 1) ≤ 4352
+  -- at most 256 lines of 33 characters
+  pub entries-most : t .n * (t .l + 1) ≤ 8448
   entries-most =
       let wide = width-most (t .l) (good .width) in
-      let line : t .l + 1 ≤ 17 = omega (arith, wide) in
+      let line : t .l + 1 ≤ 33 = omega (arith, wide) in
       mul-le-mul (good-few good) line
 
   -- It is not longer.

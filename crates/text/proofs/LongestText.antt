@@ -11,7 +11,7 @@ use Rattle.tables.specs.Refusals.{if-accepted}
 use Rattle.tables.specs.Values.{GoodTable}
 use Rattle.terms.specs.Checks.{Written}
 use Rattle.operations.specs.Operations.{written-call}
-use Rattle.codec.proofs.Laws.{length-numbers}
+use Rattle.codec.proofs.Laws.{length-words}
 use Rattle.forms.specs.TableForms.{first-size, second-size}
 use Rattle.equation_forms.specs.declared.Left.{Left}
 use Rattle.equation_forms.specs.declared.Left.the-variants.{Variable}
@@ -62,5 +62,5 @@ run-most t q good sizes =
       block-most vars (t .l) good (omega arith),
       from-most ws t 1 good,
       shared-most Variable (lefts e q) (counts e q) (all-tokens e (second-size q) q),
-      length-numbers e (drop 4 q),
+      length-words 2 e (drop 4 q),
     )

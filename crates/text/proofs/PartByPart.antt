@@ -5,7 +5,7 @@ use Prim.Native.Nat.{ℕ, _+_}
 use native.Mathlib.Omega.{arith}
 use lib.ListN.{length, length-append}
 use lib.Seq.{sets, length-sets}
-use Rattle.codec.proofs.Laws.{sets-append}
+use Rattle.codec.proofs.Rows.{sets-append}
 use Rattle.text.specs.declared.Pass.{Pass}
 use Rattle.text.specs.declared.Pass.the-variants.{Measure, Write}
 use Rattle.text.specs.Passes.{Room, passed}

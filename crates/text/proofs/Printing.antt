@@ -15,7 +15,7 @@ use Rattle.words.specs.Words.{string, trit-of}
 use Rattle.words.proofs.Codec.{string-length, string-at}
 use Rattle.tables.specs.declared.Table.{Table}
 use Rattle.tables.specs.Values.{entries-of, GoodTable}
-use Rattle.codec.proofs.Laws.{sets-append}
+use Rattle.codec.proofs.Rows.{sets-append}
 use Rattle.text.specs.Text.{newline, character, entry-text, entries-text}
 use Rattle.text.specs.Printing.{Elsewhere, Printed}
 use Rattle.text.proofs.Writing.{entry-length, here, entries-from, entry-here, here-length}

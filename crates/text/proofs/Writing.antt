@@ -19,7 +19,7 @@ use Rattle.tables.specs.declared.Table.{Table}
 use Rattle.tables.specs.Values.{entries-of, GoodTable}
 use Rattle.tables.proofs.Arrays.{stores-at, stores-length}
 use Rattle.tables.proofs.Checking.{good-holds}
-use Rattle.codec.proofs.Laws.{sets-append}
+use Rattle.codec.proofs.Rows.{sets-append}
 use Rattle.text.specs.Text.{newline, digit, decimal, line, character, entry-text, entries-text}
 
 -- ---- Words

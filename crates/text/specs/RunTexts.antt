@@ -19,6 +19,6 @@ text-from t k (w ∷ ws) =
 unfoldable pub run-text : Table → List Written → List ℕ
 run-text t ws = first-text t ++ text-from t 1 ws
 
--- No text of a run has more bytes: at most 65 tables of 256 lines of 17 bytes, each under a line of at most 25.
+-- No text of a run has more bytes: at most 65 tables of 256 lines of 33 bytes, each under a line of at most 25.
 abbrev pub most-text : ℕ
-most-text = 286000
+most-text = 552500

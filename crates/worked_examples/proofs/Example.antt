@@ -35,6 +35,7 @@ use Rattle.tables.specs.Values.{table-of, good-width, GoodTable}
 use Rattle.terms.specs.Checks.{Written, one-term, two-terms}
 use Rattle.terms.specs.Checks as C
 use Rattle.operations.specs.Outcomes.{groups-of}
+use Rattle.forms.specs.TableForms.{word-length}
 use Rattle.byte_calls.specs.ByteCalls.{written-tokens}
 use Rattle.byte_calls.proofs.AfterChecks.{check-all-bytes}
 use Rattle.demands.specs.Demand3.{Calls}
@@ -170,6 +171,7 @@ module _ (side : Side) {before between after : Entries} (w : Tables side before 
 
   -- The calls from the first table to the one before the clash, and then others, with what the model is fed of them.
   calls : {es : List Event} {u : Table} → Calls side (three after) es u → Calls side (three before) (fed es) u
+  unfolding word-length
   calls rest =
       bytes-accepted side three-wide (w .good) first-bytes (w .first-makes) (w .reduced) zeros (first-read .passes)
       (first-read .reads) (omega (arith, w .few))
@@ -186,6 +188,7 @@ module _ (side : Side) {before between after : Entries} (w : Tables side before 
 
   -- The calls with the one that clashes.
   pub apart-calls : Calls side (three before) (fed (accepted apart ∷ [])) (three (no-groups side 3))
+  unfolding word-length
   apart-calls =
       calls (bytes-accepted side three-wide (after-good .0) apart-bytes (apart-makes side after) (after-good .1) zeros
       (apart-read .passes) (apart-read .reads) (omega (arith, at-most-one side)) S.end)

@@ -17,18 +17,20 @@ pub fn base(call: Call, negative: bool, size: Size, random: &mut Random) -> Case
 /// A call that can be damaged in each way: it has an entry, an equation, and room for a bit
 /// above l or an unused digit.
 pub fn base_to_damage(call: Call, negative: bool, random: &mut Random) -> Case {
+    let few = random.within(1, 6) as u32;
     let l = match call {
-        Call::Unpack => random.pick(&[1, 2, 3, 4, 6, 8, 11, 14, 16]),
-        _ => random.within(1, 6) as u32,
+        Call::Unpack => random.pick(&[1, 2, 3, 4, 6, 8, 11, 14, 16, 17, 28, 31, 32]),
+        _ => random.pick(&[few, few, few, 15, 17, 24, 31]),
     };
-    let n = random.within(1, 6);
-    let table = random.table(l, n);
+    short_base(call, negative, l, random)
+}
+
+/// A call on a short table of l variables, with short terms and few equations.
+pub fn short_base(call: Call, negative: bool, l: u32, random: &mut Random) -> Case {
+    let table = random.short_table(l);
     let mut case = base_on(call, negative, Size::Light, &table, random);
     match call {
-        Call::Join | Call::Equal | Call::Smaller => {
-            let n = random.within(1, 6);
-            case.second = form(&random.table(l, n));
-        }
+        Call::Join | Call::Equal | Call::Smaller => case.second = form(&random.short_table(l)),
         Call::Equation | Call::Step => {
             let size = random.within(1, 8);
             case.second = bytes_of(random.term_of(l, size));

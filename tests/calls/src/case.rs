@@ -91,7 +91,7 @@ impl Call {
     pub fn written(self, out: &[u8]) -> usize {
         match self {
             Call::Pack => packed_length(form_width(out), form_entries(out)),
-            _ => table_length(form_entries(out)),
+            _ => table_length(form_width(out), form_entries(out)),
         }
     }
 

@@ -1,14 +1,15 @@
 //! Calls whose lists come to exactly 256 entries, and the same calls with one entry more.
 
 use crate::case::{Call, Case};
-use crate::full::{alternate, convert, join, negative_join, run_of, step_of, table_of, Full};
+use crate::full::{alternate, convert, join, negative_join, run_of, step_of, Full};
 use crate::full::{unify_run_of, unify_step_of};
 use crate::tester::Tester;
 use crate::{base, expected};
+use reference::entry::low_bits;
 use reference::forms::bytes_of;
 use reference::terms::head;
 use reference::{equations, Entry, Refusal, Table, TwoTerms, ENTRIES};
-use support::tables::{form, form_entries, Size, LONGEST};
+use support::tables::{form, form_entries, table_of, Size, LONGEST};
 use support::{Checked, Random};
 
 /// All calls at the limit.
@@ -68,7 +69,7 @@ fn holds(list: Result<Vec<Entry>, Refusal>, entries: usize) -> Checked<()> {
 
 /// Packing and unpacking keep all of 256 entries.
 fn packings(tester: &mut Tester, random: &mut Random) -> Checked<()> {
-    let l = random.within(9, 16) as u32;
+    let l = random.width().max(9);
     let groups = alternate(l, ENTRIES, random).into_iter();
     let table = Table {
         l,
@@ -82,7 +83,7 @@ fn packings(tester: &mut Tester, random: &mut Random) -> Checked<()> {
 }
 
 fn conversions(tester: &mut Tester, random: &mut Random) -> Checked<()> {
-    let l = random.within(10, 16) as u32;
+    let l = random.width().max(10);
     for count in [255, 256, 257, 258, 511] {
         leaves_or_full(tester, &convert(l, count, random), count)?;
     }
@@ -102,11 +103,13 @@ fn conversions(tester: &mut Tester, random: &mut Random) -> Checked<()> {
 /// word counts as the others do.
 fn long_conversions(tester: &mut Tester, random: &mut Random) -> Checked<()> {
     let mut case = Case::new(Call::Convert);
-    case.word = random.within(5, 16) as u32;
+    case.word = random.width().max(5);
     for count in [256, 257, 1025, 0x1_0000, 0x1_0001] {
         let mut words: Vec<u32> = (1..count).map(|_| random.set(3)).collect();
         let last = 1 << (case.word - 1);
-        for (word, number) in [(last, 0), (1 << case.word, 4)] {
+        // Of 32 variables no bit is above l.
+        let above = 1u32.checked_shl(case.word).map(|above| (above, 4));
+        for (word, number) in [(last, 0)].into_iter().chain(above) {
             words.push(word);
             case.first = words.iter().flat_map(|word| word.to_le_bytes()).collect();
             case.out = random.bytes(LONGEST);
@@ -120,7 +123,8 @@ fn long_conversions(tester: &mut Tester, random: &mut Random) -> Checked<()> {
 /// Positive joins: 256 entries and none, one or several more; and one more that subsumes some or
 /// widens into one that does, which leaves room for itself.
 fn joins(tester: &mut Tester, random: &mut Random) -> Checked<()> {
-    let groups = alternate(10, 300, random);
+    let l = random.width().max(10);
+    let groups = alternate(l, 300, random);
     for (first, end) in [
         (0, 256),
         (1, 256),
@@ -131,14 +135,14 @@ fn joins(tester: &mut Tester, random: &mut Random) -> Checked<()> {
         (256, 257),
         (256, 300),
     ] {
-        let case = join(&groups[..first], &groups[first..end], random);
+        let case = join(l, &groups[..first], &groups[first..end], random);
         leaves_or_full(tester, &case, end)?;
     }
-    let mut case = join(&groups[..256], &groups[..0], random);
-    let known = Entry::of_group(10, random.pick(&groups[..256]));
-    let bit = 1 << random.below(10);
+    let mut case = join(l, &groups[..256], &groups[..0], random);
+    let known = Entry::of_group(l, random.pick(&groups[..256]));
+    let bit = 1 << random.below(l as usize);
     let (wider, beside) = (known.star(bit), known.flip(bit));
-    let more = Entry::of_group(10, groups[256]);
+    let more = Entry::of_group(l, groups[256]);
     for (entries, number) in [
         (vec![known], 0),
         (vec![wider], 0),
@@ -146,9 +150,9 @@ fn joins(tester: &mut Tester, random: &mut Random) -> Checked<()> {
         (vec![wider, wider], 0),
         (vec![more, beside], 8),
         (vec![more, wider], 8),
-        (vec![wider, more, Entry::of_group(10, groups[257])], 8),
+        (vec![wider, more, Entry::of_group(l, groups[257])], 8),
     ] {
-        case.second = form(&Table { l: 10, entries });
+        case.second = form(&Table { l, entries });
         tester.answered(&case, number)?;
     }
     Ok(())
@@ -156,25 +160,27 @@ fn joins(tester: &mut Tester, random: &mut Random) -> Checked<()> {
 
 /// Negative joins: 16 times 16 entries, and one more pair of entries that match.
 fn negative_joins(tester: &mut Tester, random: &mut Random) -> Checked<()> {
-    let mut case = negative_join(12, 16, 16, random);
+    let l = random.width().max(12);
+    let mut case = negative_join(l, 16, 16, random);
     leaves(tester, &case, ENTRIES)?;
     let mut first = table_of(&case.first);
     let other = |low: &u32| first.entries.iter().all(|entry| entry.value != *low);
     let low = alternate(6, 32, random).into_iter().find(other);
     let high = random.pick(&table_of(&case.second).entries).value;
     let value = low.unwrap_or(0) | high;
-    first.entries.push(Entry { care: 0xfff, value });
+    first.entries.push(Entry::of_group(l, value));
     case.first = form(&first);
     tester.answered(&case, 8)?;
-    leaves_or_full(tester, &negative_join(12, 17, 16, random), 17 * 16)?;
-    leaves_or_full(tester, &negative_join(12, 17, 15, random), 17 * 15)
+    leaves_or_full(tester, &negative_join(l, 17, 16, random), 17 * 16)?;
+    leaves_or_full(tester, &negative_join(l, 17, 15, random), 17 * 15)
 }
 
 /// Changes of side: entries that are fixed at so many positions each, none at one of another's,
 /// leave the product of these numbers. A projection of the negative table goes by way of them.
 fn changes_of_side(tester: &mut Tester, random: &mut Random) -> Checked<()> {
     for wide in [&[2; 8][..], &[4; 4], &[2, 3, 3, 3, 5], &[3, 3, 3, 3, 4]] {
-        let mut places: Vec<u32> = (0..16).collect();
+        let l = random.width().max(16);
+        let mut places: Vec<u32> = (0..l).collect();
         random.shuffle(&mut places);
         let mut entries = Vec::new();
         for &count in wide {
@@ -185,16 +191,16 @@ fn changes_of_side(tester: &mut Tester, random: &mut Random) -> Checked<()> {
             entries.push(Entry { care, value });
         }
         let left: usize = wide.iter().product();
-        let mut table = Table { l: 16, entries };
+        let mut table = Table { l, entries };
         for negative in [false, true] {
             let mut case = base::base_on(Call::ChangeSide, negative, Size::Light, &table, random);
             leaves_or_full(tester, &case, left)?;
             case.call = Call::Project;
-            case.word = 0xffff;
+            case.word = low_bits(l);
             let full = negative && left > ENTRIES;
             tester.answered(&case, if full { 8 } else { 0 })?;
         }
-        table.entries.push(random.string(16, 50));
+        table.entries.push(random.string(l, 50));
         for negative in [false, true] {
             let case = base::base_on(Call::ChangeSide, negative, Size::Light, &table, random);
             tester.check(&case)?;
@@ -206,7 +212,7 @@ fn changes_of_side(tester: &mut Tester, random: &mut Random) -> Checked<()> {
 /// Positive equations: so many entries have neither X1 nor X2 that with those joined there are
 /// 255, 256 and 257.
 fn equations(tester: &mut Tester, random: &mut Random) -> Checked<()> {
-    let l = 12;
+    let l = random.width().max(12);
     let (relevant, joined) = relevant_entries(l, random);
     let others = alternate(l - 2, ENTRIES, random);
     for (count, number) in [(255, 0), (256, 0), (257, 8), (258, 8)] {
@@ -248,15 +254,16 @@ fn pairs(tester: &mut Tester, equation: &Case, number: u32, random: &mut Random)
 }
 
 /// Positive equations whose cross makes the product of the counts of the groups with X1 and with X2:
-/// each has an odd number of variables in its own part of X3 to X16, so that none widens. Closing
-/// then makes fewer of the 256 entries.
+/// each has an odd number of variables in its own part of X3 to X8 and of the last eight, so that none
+/// widens. Closing then makes fewer of the 256 entries.
 fn crosses(tester: &mut Tester, random: &mut Random) -> Checked<()> {
-    let l = 16;
+    let l = random.width().max(16);
     for (first, second, number) in [(2, 128, 0), (3, 86, 8)] {
         let (low, high) = (alternate(6, first, random), alternate(8, second, random));
         let entry = |g| Entry::of_group(l, g);
         let low: Vec<Entry> = low.into_iter().map(|g| entry(1 | g << 2)).collect();
-        let high: Vec<Entry> = high.into_iter().map(|g| entry(2 | g << 8)).collect();
+        let high = high.into_iter().map(|g| entry(2 | g << (l - 8)));
+        let high: Vec<Entry> = high.collect();
         holds(equations::cross(l, &low, &high), first * second)?;
         let case = x1_is_x2(l, [low, high].concat(), random);
         tester.answered(&case, number)?;
@@ -269,7 +276,7 @@ fn crosses(tester: &mut Tester, random: &mut Random) -> Checked<()> {
 /// entries relevant to the term may need entry 257. An entry that has `*` at X2 and X3 makes two of
 /// that list, one with 0 at X3 makes one.
 fn ground_variable(tester: &mut Tester, random: &mut Random) -> Checked<()> {
-    let l = 13;
+    let l = random.width().max(13);
     let groups = alternate(l - 3, 129, random);
     for (open, count, number) in [(127, 128, 0), (128, 128, 0), (128, 129, 8), (129, 129, 8)] {
         let fixed = groups[..count].iter().map(|&g| Entry::of_group(l, g << 3));
@@ -292,7 +299,7 @@ fn ground_variable(tester: &mut Tester, random: &mut Random) -> Checked<()> {
 fn relevant_entries(l: u32, random: &mut Random) -> (Vec<Entry>, usize) {
     loop {
         let fixed = |low: u32, random: &mut Random| {
-            let group = low | (random.word() & 0xffc & random.word());
+            let group = low | (random.word() & random.word() & low_bits(l) & !3);
             let even = u32::from(group.count_ones().is_multiple_of(2));
             Entry::of_group(l, group ^ even << 2)
         };

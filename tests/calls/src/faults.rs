@@ -5,6 +5,7 @@ use crate::case::{Call, Case};
 use crate::expected::expected;
 use crate::full::Full;
 use crate::{form_faults, packed_faults, term_faults, word_faults};
+use reference::VARIABLES;
 use support::tables::form;
 use support::Random;
 
@@ -258,8 +259,9 @@ fn put(fault: Fault, l: u32, case: &mut Case, random: &mut Random) {
 
 /// Gives the call a second table of another l.
 fn make_unlike(l: u32, case: &mut Case, random: &mut Random) {
-    let others: Vec<u32> = (1..=15).filter(|&other| other != l).collect();
-    let other = random.pick(&others);
+    // With room for a bit above l.
+    let others = (1..VARIABLES).filter(|&other| other != l && other != 16);
+    let other = random.pick(&others.collect::<Vec<_>>());
     let n = random.within(1, 6);
     case.second = form(&random.table(other, n));
 }

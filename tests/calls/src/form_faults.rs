@@ -1,8 +1,9 @@
 //! Faults in the form of a table.
 
 use crate::faults::Fault;
-use reference::forms::{bytes_of, words_of};
-use reference::ENTRIES;
+use reference::forms::{form_of, word_length};
+use reference::{Entry, Table, ENTRIES};
+use support::tables::table_of;
 use support::Random;
 
 /// Puts a fault into a form that has its sizes and the length that they give, or is longer.
@@ -10,13 +11,13 @@ pub fn put(fault: Fault, bytes: &mut Vec<u8>, random: &mut Random) {
     match fault {
         Fault::Count(_) => *bytes = overfull(bytes, random),
         Fault::StrayBit(_) | Fault::StrayValue(_) => {
-            let mut words = words_of(bytes);
-            make_stray(matches!(fault, Fault::StrayBit(_)), &mut words, random);
-            *bytes = bytes_of(words);
+            let mut table = table_of(bytes);
+            make_stray(matches!(fault, Fault::StrayBit(_)), &mut table, random);
+            *bytes = form_of(&table);
         }
         Fault::Width(_) => {
             let l = u16::from(bytes[0]);
-            let width = random.pick(&[0, 0, 17, 17, 32, 0x100 | l, 0x8000 | l, u16::MAX]);
+            let width = random.pick(&[0, 0, 33, 33, 64, 0x100 | l, 0x8000 | l, u16::MAX]);
             bytes[..2].copy_from_slice(&width.to_le_bytes());
         }
         Fault::Short(_) => {
@@ -36,11 +37,10 @@ pub fn put(fault: Fault, bytes: &mut Vec<u8>, random: &mut Random) {
 /// A form of more than 256 entries that has the length its sizes give: the entries of the given
 /// form again and again.
 fn overfull(bytes: &[u8], random: &mut Random) -> Vec<u8> {
-    let words = words_of(bytes);
-    let (care, value) = words[2..].split_at(usize::from(words[1]));
-    let n = too_many(care.len(), random);
-    let row = |words: &[u16]| -> Vec<u16> { words.iter().copied().cycle().take(n).collect() };
-    bytes_of([vec![words[0], n as u16], row(care), row(value)].concat())
+    let Table { l, entries } = table_of(bytes);
+    let n = too_many(entries.len(), random);
+    let entries = entries.into_iter().cycle().take(n).collect();
+    form_of(&Table { l, entries })
 }
 
 /// A count above 256 in place of a good one.
@@ -56,18 +56,17 @@ pub fn too_many(good: usize, random: &mut Random) -> usize {
 }
 
 /// A bit above l in one entry, or a value without care.
-fn make_stray(above: bool, words: &mut [u16], random: &mut Random) {
-    let (l, n) = (usize::from(words[0]), usize::from(words[1]));
+fn make_stray(above: bool, table: &mut Table, random: &mut Random) {
+    let (l, n) = (table.l as usize, table.entries.len());
     let any = random.below(n);
-    let k = random.pick(&[0, n - 1, any]);
-    let (care, value) = (2 + k, 2 + n + k);
+    let Entry { care, value } = &mut table.entries[random.pick(&[0, n - 1, any])];
     if above {
-        let bit = 1 << random.within(l, 15);
-        words[care] |= bit;
-        words[value] |= random.pick(&[0, bit]);
+        let bit = 1 << random.within(l, 8 * word_length(table.l) - 1);
+        *care |= bit;
+        *value |= random.pick(&[0, bit]);
     } else {
         let bit = 1 << random.below(l);
-        words[care] &= !bit;
-        words[value] |= bit;
+        *care &= !bit;
+        *value |= bit;
     }
 }

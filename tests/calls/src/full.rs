@@ -7,8 +7,8 @@ use reference::entry::low_bits;
 use reference::forms::{bytes_of, words_of};
 use reference::terms::head;
 use reference::{Entry, Table, TwoTerms, ENTRIES};
-use std::collections::BTreeMap;
-use support::tables::{form, Size, LONGEST};
+use std::collections::{BTreeMap, BTreeSet};
+use support::tables::{form, form_width, table_of, Size, LONGEST};
 use support::{Equations, Random, TermEquations};
 
 /// How many full calls of each kind are found at the start, to be used again and again.
@@ -72,12 +72,14 @@ fn find(call: Call, negative: bool, random: &mut Random) -> Vec<Case> {
 
 /// A call that is likely to be full.
 fn candidate(call: Call, negative: bool, random: &mut Random) -> Case {
-    let l = random.within(10, 15) as u32;
+    let [few, many] = [(10, 15), (17, 31)].map(|(a, b)| random.within(a, b) as u32);
+    let l = random.pick(&[few, many]);
     match (call, negative) {
         (Call::Convert, _) => convert(l, ENTRIES + 1 + random.below(40), random),
         (Call::Join, false) => {
             let k = random.within(128, 250);
-            join(&alternate(l, k, random), &alternate(l, k, random), random)
+            let [first, second] = [(); 2].map(|()| alternate(l, k, random));
+            join(l, &first, &second, random)
         }
         (Call::Join, true) => {
             let (first, second) = (random.within(15, 31), random.within(15, 31));
@@ -114,10 +116,19 @@ fn on_strings(
 }
 
 /// So many different groups of which each two differ at two positions or more, so that none
-/// widens beside another; there are 256 of 9 variables.
+/// widens beside another: each has an odd number of variables; there are 256 of 9 variables. Of more
+/// than 12 variables they are drawn: few of all that there are.
 pub fn alternate(l: u32, count: usize, random: &mut Random) -> Vec<u32> {
     let odd = |group: &u32| group.count_ones() % 2 == 1;
-    let mut groups: Vec<u32> = (1..=low_bits(l)).filter(odd).collect();
+    let mut groups: Vec<u32> = if l <= 12 {
+        (1..=low_bits(l)).filter(odd).collect()
+    } else {
+        let mut drawn = BTreeSet::new();
+        while drawn.len() < count {
+            drawn.extend(Some(random.word() & low_bits(l)).filter(odd));
+        }
+        drawn.into_iter().collect()
+    };
     random.shuffle(&mut groups);
     groups.truncate(count);
     groups
@@ -138,14 +149,13 @@ pub fn convert(l: u32, count: usize, random: &mut Random) -> Case {
     case
 }
 
-/// A positive join of groups.
-pub fn join(first: &[u32], second: &[u32], random: &mut Random) -> Case {
-    let l = 10;
+/// A positive join of groups of l variables.
+pub fn join(l: u32, first: &[u32], second: &[u32], random: &mut Random) -> Case {
     let fixed = |groups: &[u32]| Table {
         l,
         entries: groups
             .iter()
-            .map(|&group| Entry::of_group(l, group & low_bits(l)))
+            .map(|&group| Entry::of_group(l, group))
             .collect(),
     };
     let mut case = Case::new(Call::Join);
@@ -175,20 +185,6 @@ pub fn negative_join(l: u32, first: usize, second: usize, random: &mut Random) -
     case
 }
 
-/// The table of an undamaged form, as it stands.
-pub fn table_of(form: &[u8]) -> Table {
-    let words = words_of(form);
-    let (care, value) = words[2..].split_at(usize::from(words[1]));
-    let entries = care.iter().zip(value).map(|(&care, &value)| Entry {
-        care: u32::from(care),
-        value: u32::from(value),
-    });
-    Table {
-        l: u32::from(words[0]),
-        entries: entries.collect(),
-    }
-}
-
 /// The step of the same equation from the same table, which is not grown first.
 pub fn step_of(equation: &Case, random: &mut Random) -> Case {
     let mut case = Case::new(Call::Step);
@@ -200,7 +196,7 @@ pub fn step_of(equation: &Case, random: &mut Random) -> Case {
 
 /// A run that comes to the given full equation, or to another one before it.
 pub fn run_of(equation: &Case, random: &mut Random) -> Case {
-    let l = table_of(&equation.first).l;
+    let l = form_width(&equation.first);
     let mut case = Case::new(Call::Run);
     (case.side, case.first) = (equation.side, equation.first.clone());
     for earlier in [2, 1, 0] {
@@ -225,7 +221,7 @@ pub fn run_of(equation: &Case, random: &mut Random) -> Case {
 /// Two terms whose walk finds the given full equation, with its variable on either side, and at
 /// times others before and after it.
 pub fn unify_of(equation: &Case, random: &mut Random) -> Case {
-    let l = table_of(&equation.first).l;
+    let l = form_width(&equation.first);
     let mut case = equation.clone();
     case.call = Call::Unify;
     loop {
@@ -262,7 +258,7 @@ pub fn unify_step_of(pair: &Case, random: &mut Random) -> Case {
 
 /// A run that comes to the given full pair, or to another one before it.
 pub fn unify_run_of(pair: &Case, random: &mut Random) -> Case {
-    let l = table_of(&pair.first).l;
+    let l = form_width(&pair.first);
     let mut case = Case::new(Call::UnifyRun);
     (case.side, case.first) = (pair.side, pair.first.clone());
     for earlier in [2, 1, 0] {

@@ -11,6 +11,7 @@ mod edges;
 mod expected;
 mod faults;
 mod form_faults;
+mod form_words;
 mod full;
 mod guard;
 mod ledger;
@@ -26,6 +27,7 @@ mod two_ways;
 mod twos;
 mod valid;
 mod walks;
+mod widths;
 mod word_faults;
 
 use full::Full;
@@ -69,6 +71,8 @@ fn check_all(tester: &mut Tester) -> Checked<()> {
     noise::check(tester)?;
     twos::check(tester)?;
     packed::check(tester)?;
+    form_words::check(tester)?;
+    widths::check(tester)?;
     walks::check(tester, &full)?;
     two_ways::check(tester)?;
     sequences::check(tester, &full)

@@ -4,6 +4,7 @@ use crate::base::{base, base_to_damage};
 use crate::case::{Call, Case};
 use crate::ledger::rows;
 use crate::tester::Tester;
+use reference::forms::{table_length, word_length};
 use reference::packed::packed_length;
 use support::tables::Size;
 use support::{Checked, Random};
@@ -57,34 +58,31 @@ fn make_noise(case: &mut Case, random: &mut Random) {
 /// A number that is often a valid one.
 fn small_or_any(random: &mut Random) -> u32 {
     let any = random.word();
-    let small = random.below(18) as u32;
+    let small = random.below(34) as u32;
     random.pick(&[small, small, small, any])
 }
 
 /// Bytes of any value, often with small sizes in front that may fit the length.
 fn noise(random: &mut Random) -> Vec<u8> {
-    let n = random.below(6);
-    let any = random.below(40);
-    let len = random.pick(&[4 + 4 * n, 2 * n, any]);
+    let (l, n) = (random.below(34), random.below(6));
+    let any = random.below(60);
+    let len = random.pick(&[table_length(l as u32, n), 4 + 4 * n, 2 * n, any]);
     let mut bytes = random.bytes(len);
     if len >= 4 && random.percent(80) {
-        bytes[..4].copy_from_slice(&[random.below(18) as u8, 0, n as u8, 0]);
+        bytes[..4].copy_from_slice(&[l as u8, 0, n as u8, 0]);
     }
     if random.percent(50) {
         // Small numbers in the high bytes, so that fewer words have a bit above l.
-        let high = random.pick(&[0, 0, 0x80]);
-        bytes
-            .iter_mut()
-            .skip(5)
-            .step_by(2)
-            .for_each(|byte| *byte &= high);
+        let (high, word) = (random.pick(&[0, 0, 0x80]), word_length(l as u32));
+        let tops = bytes.iter_mut().skip(3 + word).step_by(word);
+        tops.for_each(|byte| *byte &= high);
     }
     bytes
 }
 
 /// The same for a packed form, often of bytes that few digits make.
 fn packed_noise(random: &mut Random) -> Vec<u8> {
-    let (l, n) = (random.below(18), random.below(6));
+    let (l, n) = (random.below(34), random.below(6));
     let fitting = packed_length(l as u32, n);
     let any = random.below(30);
     let len = random.pick(&[fitting, fitting, fitting, any]);

@@ -3,12 +3,13 @@
 use crate::base::{base_on, give_terms};
 use crate::case::{Call, Case, Outcome};
 use crate::faults::Fault;
-use crate::full::{table_of, Full};
+use crate::full::Full;
 use crate::tester::Tester;
 use crate::{packed, term_faults, word_faults};
-use reference::forms::bytes_of;
+use reference::forms::{bytes_of, table_length};
+use reference::{ENTRIES, VARIABLES};
 use support::library::State;
-use support::tables::{form, Size, LONGEST};
+use support::tables::{form, table_of, Size, LONGEST};
 use support::{Checked, Random};
 
 /// Running analyses, chains of calls on bytes, and runs beside steps.
@@ -73,7 +74,7 @@ fn step(
     random: &mut Random,
 ) -> Checked<Box<State>> {
     let mut case = Case::new(Call::Step);
-    let l = state.table.l.clamp(1, 16);
+    let l = state.table.l.clamp(1, VARIABLES);
     case.state = Some(Box::new(*state));
     case.word = u32::from(random.variable(l));
     let size = random.within(1, 6);
@@ -109,7 +110,7 @@ fn unify_step(
     random: &mut Random,
 ) -> Checked<Box<State>> {
     let mut case = Case::new(Call::UnifyStep);
-    let l = state.table.l.clamp(1, 16);
+    let l = state.table.l.clamp(1, VARIABLES);
     case.state = Some(Box::new(*state));
     let (left, right) = (random.within(1, 6), random.within(1, 6));
     let terms = match random.below(10) {
@@ -148,7 +149,7 @@ fn refused_unify_step(
 fn write(tester: &mut Tester, state: &State, random: &mut Random) -> Checked<Box<State>> {
     let mut case = Case::new(Call::Write);
     case.state = Some(Box::new(*state));
-    let needed = 4 + 4 * state.table.n.min(256);
+    let needed = table_length(state.table.l, state.table.n.min(ENTRIES));
     let len = random.within(0, needed + 8);
     let len = random.pick(&[len, needed, needed - 1, LONGEST]);
     case.out = random.bytes(len);
@@ -162,7 +163,7 @@ fn damage(tester: &mut Tester, state: &State, random: &mut Random) -> Checked<Bo
         1..=255 => random.pick(&[Fault::StateStray, Fault::StateTail, Fault::StateCount]),
         _ => Fault::StateWidth,
     };
-    let l = state.table.l.clamp(1, 16);
+    let l = state.table.l.clamp(1, VARIABLES);
     word_faults::put_in_table(fault, l, &mut damaged.table, random);
     let after = step(tester, &damaged, &[], random)?;
     write(tester, &after, random)

@@ -153,7 +153,7 @@ fn each_length(tester: &mut Tester, negative: bool, random: &mut Random) -> Chec
 
 /// Outputs of every length up to some bytes more than are needed.
 fn each_output(tester: &mut Tester, negative: bool, random: &mut Random) -> Checked<()> {
-    let (l, n) = (random.within(1, 16) as u32, random.below(4));
+    let (l, n) = (random.width(), random.below(4));
     let table = random.table(l, n);
     let mut case = base_on(Call::Unify, negative, Size::Light, &table, random);
     let outcome = tester.check(&case)?;

@@ -10,11 +10,11 @@ pub fn check(tester: &mut Tester) -> Checked<()> {
     let mut random = Random::new(7);
     for _ in 0..12_000 {
         let mut case = Case::new(Call::Smaller);
-        let l = random.within(1, 16) as u32;
+        let l = random.width();
         let other = if random.percent(90) {
             l
         } else {
-            random.within(1, 16) as u32
+            random.width()
         };
         let n = count(&mut random);
         let m = if random.percent(30) {

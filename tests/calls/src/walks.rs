@@ -6,9 +6,9 @@ use crate::case::{Call, Case, Outcome};
 use crate::full::{unify_run_of, unify_step_of, Full};
 use crate::packed::written;
 use crate::tester::Tester;
-use reference::forms::{bytes_of, words_of};
+use reference::forms::{bytes_of, table_length, words_of};
 use reference::terms::{arity, head, TOKENS};
-use reference::TwoTerms;
+use reference::{Table, TwoTerms};
 use support::tables::{form_entries, Size};
 use support::{Checked, Random, TermEquations};
 
@@ -34,10 +34,19 @@ pub fn check(tester: &mut Tester, full: &Full) -> Checked<()> {
     Ok(())
 }
 
-/// A call on a small table, without terms yet.
+/// A call on a small table, without terms yet. Walks of many tokens about many variables would be full
+/// at times: so negative tables have up to 12 variables, and from 17 on positive ones have up to three
+/// groups, which make seven at most.
 fn unify(negative: bool, random: &mut Random) -> Case {
-    let (l, n) = (random.within(1, 16) as u32, random.below(4));
-    let table = random.table(l, n);
+    let (few, any, n) = (random.within(1, 12), random.width(), random.below(4));
+    let l = if negative { few as u32 } else { any };
+    let table = match l {
+        ..=16 => random.table(l, n),
+        _ => Table {
+            l,
+            entries: (0..n).map(|_| random.string(l, 0)).collect(),
+        },
+    };
     base_on(Call::Unify, negative, Size::Light, &table, random)
 }
 
@@ -184,7 +193,8 @@ fn length(tokens: &[u16]) -> usize {
 /// A table without groups: no entry on the positive side, one of stars on the negative one.
 fn without_groups(case: &Case, outcome: &Outcome) -> Checked<()> {
     let n = u8::from(case.is_negative());
-    let due = [&case.first[..2], &[n, 0], &vec![0; 4 * usize::from(n)]].concat();
+    let words = vec![0; table_length(case.l(), n.into()) - 4];
+    let due = [&case.first[..2], &[n, 0], &words].concat();
     if outcome.out[..due.len()] == due && form_entries(&outcome.out) == usize::from(n) {
         Ok(())
     } else {

@@ -3,7 +3,7 @@
 use crate::case::Case;
 use crate::faults::Fault;
 use reference::entry::low_bits;
-use reference::ENTRIES;
+use reference::{ENTRIES, VARIABLES};
 use support::library::RawTable;
 use support::Random;
 
@@ -14,16 +14,16 @@ fn no_variable(l: u32, random: &mut Random) -> u32 {
     random.pick(&[0, l + 1, above, 0x8000 | some, 0x10000 | some, u32::MAX])
 }
 
-/// A word with bits above l.
+/// A word with bits above l, which is less than 32.
 fn bits_above(l: u32, random: &mut Random) -> u32 {
     let any = random.word();
     let bits = random.pick(&[1 << l, 1 << 16, 1 << 31, any, u32::MAX]) & !low_bits(l);
     bits.max(1 << l)
 }
 
-/// A width outside 1 to 16.
+/// A width outside 1 to 32.
 fn no_width(l: u32, random: &mut Random) -> u32 {
-    random.pick(&[0, 0, 17, 17, 32, 0x100 + l, 0x10000 + l, u32::MAX])
+    random.pick(&[0, 0, 33, 33, 64, 0x100 + l, 0x10000 + l, u32::MAX])
 }
 
 /// Puts a fault into the numbers of a call on tables of l variables.
@@ -61,8 +61,8 @@ pub fn put_in_table(fault: Fault, l: u32, table: &mut RawTable, random: &mut Ran
             let k = random.below(n.min(ENTRIES));
             let bit = 1 << random.below(l as usize);
             match random.below(3) {
-                0 => table.care[k] |= bits_above(l, random),
-                1 => table.value[k] |= bits_above(l, random),
+                0 if l < VARIABLES => table.care[k] |= bits_above(l, random),
+                1 if l < VARIABLES => table.value[k] |= bits_above(l, random),
                 _ => (table.care[k], table.value[k]) = (table.care[k] & !bit, bit),
             }
         }

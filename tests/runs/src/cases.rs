@@ -1,7 +1,8 @@
 //! The stored cases: NAME.words holds an input, NAME.out the text that the program prints.
 //!
-//! An input is written as decimal 16-bit words between blanks; `#` starts a comment that ends with
-//! the line. A line `bytes N` cuts the input to N bytes, or fills it up with zero bytes.
+//! An input is written as decimal 16-bit words between blanks, a word of 32 bits as its low half and
+//! its high half; `#` starts a comment that ends with the line. A line `bytes N` cuts the input to N
+//! bytes, or fills it up with zero bytes.
 
 use crate::tester::{difference, Tester};
 use reference::forms::bytes_of;

@@ -4,7 +4,7 @@ use crate::inputs::Input;
 use support::Random;
 
 /// The largest l, n, e and m.
-const LIMITS: [u16; 4] = [16, 256, 64, 1024];
+const LIMITS: [u16; 4] = [32, 256, 64, 1024];
 
 /// Damages an input in one way; now and then what is put in is what was there.
 pub fn damage(input: &mut Input, random: &mut Random) {
@@ -33,7 +33,7 @@ fn cut(bytes: &mut Vec<u8>, random: &mut Random) {
 fn lengthen(bytes: &mut Vec<u8>, random: &mut Random) {
     let more = random.pick(&[1, 2, 4, 30]);
     let length = bytes.len() + more;
-    let length = random.pick(&[length, length, length, 4095, 4096, 4097, 4098, 9000]);
+    let length = random.pick(&[length, length, length, 4097, 8191, 8192, 8193, 8194, 20_000]);
     let more = random.bytes(length.saturating_sub(bytes.len()));
     bytes.extend(more);
 }
@@ -47,7 +47,13 @@ fn change_size(input: &mut Input, random: &mut Random) {
     };
     let old = u16::from_le_bytes([size[0], size[1]]);
     let (above, limit) = (old.wrapping_add(1), LIMITS[which]);
-    let near = [above, old.wrapping_sub(1), 0, limit, limit + 1];
+    // Next to 16 the words of a table have another width.
+    let other = if which == 0 {
+        16 + u16::from(old <= 16)
+    } else {
+        above
+    };
+    let near = [above, old.wrapping_sub(1), 0, limit, limit + 1, other];
     let far = [old ^ 0x100, old ^ 0x8000, u16::MAX];
     let new = random.pick(&[&near[..], &near[..], &far[..]].concat());
     size.copy_from_slice(&new.to_le_bytes());
@@ -61,7 +67,7 @@ fn change_word(input: &mut Input, random: &mut Random) {
         return;
     }
     let place = start + 2 * random.below(words);
-    let (small, any) = (random.below(18) as u16, random.word() as u16);
+    let (small, any) = (random.below(34) as u16, random.word() as u16);
     let new = random.pick(&[small, small, 0x8000 | small, any]);
     input.bytes[place..place + 2].copy_from_slice(&new.to_le_bytes());
 }

@@ -5,6 +5,7 @@ use crate::drawn::draw;
 use crate::inputs::Input;
 use crate::program::{Drain, Feed};
 use crate::tester::Tester;
+use reference::report::INPUT;
 use reference::terms::head;
 use reference::{report, Entry, Table};
 use std::fmt::Write as _;
@@ -17,9 +18,9 @@ const SIZES: [usize; 5] = [1, 2, 3, 7, 1000];
 /// How many drawn inputs come in pieces.
 const DRAWN: usize = 200;
 
-/// The length of the longest text: 65 tables of 256 lines of 17 bytes, the line of the first table
+/// The length of the longest text: 65 tables of 256 lines of 33 bytes, the line of the first table
 /// (20 bytes), and the lines of 9 equations (17 bytes) and of 55 more (18 bytes).
-const LONGEST: usize = 65 * 256 * 17 + 20 + 9 * 17 + 55 * 18;
+const LONGEST: usize = 65 * 256 * 33 + 20 + 9 * 17 + 55 * 18;
 
 /// All of them.
 pub fn check(tester: &mut Tester, cases: &[Case]) -> Checked<()> {
@@ -54,8 +55,8 @@ fn check_pauses(tester: &mut Tester, cases: &[Case]) -> Checked<()> {
         if case.input.len() > 1000 {
             check_case(tester, case, Feed::Paused(1000, long_pause))?;
         }
-        if case.input.len() > 4096 {
-            check_case(tester, case, Feed::Paused(4096, long_pause))?;
+        if case.input.len() > INPUT {
+            check_case(tester, case, Feed::Paused(INPUT, long_pause))?;
         }
     }
     Ok(())
@@ -96,25 +97,25 @@ fn check_longest(tester: &mut Tester) -> Checked<()> {
     Ok(())
 }
 
-/// The input of the longest text and the text: 256 groups of which none has X16, then 64 times the
-/// equation X16 = a, which changes nothing. Each has an odd number of X1 to X9, so that none widens.
+/// The input of the longest text and the text: 256 groups of which none has X32, then 64 times the
+/// equation X32 = a, which changes nothing. Each has an odd number of X1 to X9, so that none widens.
 fn longest() -> (Vec<u8>, String) {
     let groups = (1..512).filter(|group: &u32| group.count_ones() % 2 == 1);
-    let entries = groups.clone().map(|group| Entry::of_group(16, group));
+    let entries = groups.clone().map(|group| Entry::of_group(32, group));
     let table = Table {
-        l: 16,
+        l: 32,
         entries: entries.collect(),
     };
     let mut equations = Equations::default();
     let mut lines = String::new();
     for group in groups {
         // Position 1 is the lowest bit.
-        lines.extend(format!("{group:016b}").chars().rev());
+        lines.extend(format!("{group:032b}").chars().rev());
         lines.push('\n');
     }
-    let mut text = format!("vars 16 entries 256\n{lines}");
+    let mut text = format!("vars 32 entries 256\n{lines}");
     for number in 1..=64 {
-        equations.push(16, &[head(2, 0)]);
+        equations.push(32, &[head(2, 0)]);
         let _ = write!(text, "eq {number} entries 256\n{lines}");
     }
     (Input::new(&table, &equations).bytes, text)

@@ -31,16 +31,17 @@ pub fn input(size: Size, random: &mut Random) -> Input {
 
 /// A small input with at least one entry and one equation.
 pub fn small_input(random: &mut Random) -> Input {
-    let (l, n) = (random.within(1, 6) as u32, random.within(1, 6));
+    let few = random.within(1, 6) as u32;
+    let l = random.pick(&[few, few, few, 15, 16, 17, 24, 31, 32]);
     let count = random.within(1, 4);
     let mut equations = Equations::default();
     add_equations(l, count, 5, &mut equations, random);
-    Input::new(&random.table(l, n), &equations)
+    Input::new(&random.short_table(l), &equations)
 }
 
 /// An input whose run is likely to need entry 257, often after some accepted equations.
 pub fn crowded_input(random: &mut Random) -> Input {
-    let l = random.within(10, 16) as u32;
+    let l = random.width().max(10);
     let (n, stars) = (random.within(30, 120), random.pick(&[0, 10, 30]));
     let entries = (0..n).map(|_| random.string(l, stars)).collect();
     let mut equations = Equations::default();

@@ -2,34 +2,43 @@
 
 use crate::random::Random;
 use reference::entry::low_bits;
-use reference::forms::{table_length, write_table};
+use reference::forms::{entries_of, table_length, write_table};
 use reference::packed::{packed_length, write_packed};
-use reference::{Entry, Table, ENTRIES};
+use reference::{Entry, Table, ENTRIES, VARIABLES};
 
 /// How large the drawn tables are; calls that take long get light ones.
 #[derive(Clone, Copy, PartialEq, Eq)]
 pub enum Size {
     /// Up to 7 variables and 10 entries.
     Light,
-    /// Up to 16 variables and 24 entries.
+    /// Any width and up to 24 entries.
     Wide,
     /// Any width and count, often at the limits.
     Any,
 }
 
+/// The widths at which the words of a form get longer, and the greatest ones.
+pub const EDGES: [u32; 4] = [16, 17, VARIABLES - 1, VARIABLES];
+
 impl Random {
     /// A width and a count.
     pub fn shape(&mut self, size: Size) -> (u32, usize) {
-        let (l, n) = match size {
-            Size::Light => (self.within(1, 7), self.within(0, 10)),
-            Size::Wide => (self.within(1, 16), self.within(0, 24)),
+        match size {
+            Size::Light => (self.within(1, 7) as u32, self.within(0, 10)),
+            Size::Wide => (self.width(), self.within(0, 24)),
             Size::Any => {
                 let count = self.below(ENTRIES + 1);
                 let counts = [0, 1, 2, 17, ENTRIES - 1, ENTRIES, count, count];
-                (self.within(1, 16), self.pick(&counts))
+                (self.width(), self.pick(&counts))
             }
-        };
-        (l as u32, n)
+        }
+    }
+
+    /// Any width, often one of those at which the words of a form get longer or are full.
+    pub fn width(&mut self) -> u32 {
+        let any = self.within(1, VARIABLES as usize) as u32;
+        let [a, b, c, d] = EDGES;
+        self.pick(&[any, any, any, any, any, any, a, b, c, d])
     }
 
     /// A table: dense or sparse, some with doubled, subsumed and all-zero entries.
@@ -45,6 +54,18 @@ impl Random {
             };
             entries.push(entry);
         }
+        Table { l, entries }
+    }
+
+    /// A table of a few entries, at least one. Of many variables there are two at most, with few fixed
+    /// positions: with more, some equations of a run would be full.
+    pub fn short_table(&mut self, l: u32) -> Table {
+        if l <= 7 {
+            let n = self.within(1, 6);
+            return self.table(l, n);
+        }
+        let n = self.within(1, 2);
+        let entries = (0..n).map(|_| self.string(l, 90)).collect();
         Table { l, entries }
     }
 
@@ -97,7 +118,7 @@ impl Random {
 }
 
 /// The length of the longest form of a table.
-pub const LONGEST: usize = 4 + 4 * ENTRIES;
+pub const LONGEST: usize = 4 + 8 * ENTRIES;
 
 /// The variables that a form says it has, plain or packed.
 pub fn form_width(form: &[u8]) -> u32 {
@@ -111,9 +132,18 @@ pub fn form_entries(form: &[u8]) -> usize {
 
 /// The form of a table as it stands.
 pub fn form(table: &Table) -> Vec<u8> {
-    let mut bytes = vec![0; table_length(table.entries.len())];
+    let mut bytes = vec![0; table_length(table.l, table.entries.len())];
     write_table(table, &mut bytes).expect("the table is valid and the output has its length");
     bytes
+}
+
+/// The table of an undamaged form, as it stands.
+pub fn table_of(form: &[u8]) -> Table {
+    let l = form_width(form);
+    Table {
+        l,
+        entries: entries_of(l, form_entries(form), form),
+    }
 }
 
 /// The packed form of a table as it stands.

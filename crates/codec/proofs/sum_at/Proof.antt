@@ -4,7 +4,7 @@ use Prim.Native.Nat.{_-_, _*_, _≤_}
 use native.Mathlib.Omega.{arith}
 use borrow.Author.Needs.{needs}
 use lib.ListN.{drop}
-use Rattle.codec.specs.Numbers.{numbers, sum}
+use Rattle.codec.specs.Numbers.{rows, numbers, sum}
 use Rattle.codec.proofs.Laws.{sum-turn}
 use Rattle.codec.proofs.sum_at.Statement.{statement}
 use Rattle.codec.proofs.sum_at.Tie as tie
@@ -17,7 +17,7 @@ abbrev μ-loop : tie.MeasureT-loop
 μ-loop b at n total₀ i₀ total i = n - i
 
 loop-holds : tie.Need-loop-holds Inv-loop μ-loop
-unfolding numbers sum
+unfolding rows sum
 loop-holds c = (search needs, refl, omega arith)
 
 mul-number-at : tie.Need-mul-number-at Inv-loop μ-loop

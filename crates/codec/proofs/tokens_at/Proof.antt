@@ -4,7 +4,7 @@ use Prim.Native.Nat.{_-_, _≤_}
 use native.Mathlib.Omega.{arith}
 use borrow.Author.Needs.{needs}
 use lib.ListN.{drop}
-use Rattle.codec.specs.Numbers.{numbers, with-zeros}
+use Rattle.codec.specs.Numbers.{rows, numbers, with-zeros}
 use Rattle.codec.proofs.Laws.{read-turn}
 use Rattle.codec.proofs.tokens_at.Statement.{statement}
 use Rattle.codec.proofs.tokens_at.Tie as tie
@@ -16,7 +16,7 @@ abbrev μ-loop : tie.MeasureT-loop
 μ-loop b at n out₀ i₀ out i = n - i
 
 loop-holds : tie.Need-loop-holds Inv-loop μ-loop
-unfolding numbers with-zeros
+unfolding rows with-zeros
 loop-holds c = (search needs, refl)
 
 mul-number-at : tie.Need-mul-number-at Inv-loop μ-loop

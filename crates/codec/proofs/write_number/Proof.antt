@@ -1,6 +1,7 @@
 -- Two stores are the two bytes of the number.
 use native.Mathlib.Numerals.{add-one}
 use borrow.Author.Needs.{needs}
+use Rattle.codec.specs.Numbers.{word-bytes}
 use Rattle.codec.proofs.write_number.Statement.{statement}
 use Rattle.codec.proofs.write_number.Tie as tie
 
@@ -23,6 +24,7 @@ same-length : tie.Need-same-length
 same-length c = search needs
 
 returns : tie.Need-returns
+unfolding word-bytes
 returns c = rw add-one
 
 pub write-number-spec : {M : Type 1} → statement M

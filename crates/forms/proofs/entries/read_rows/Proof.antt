@@ -11,7 +11,8 @@ use Rattle.tables.proofs.Tests.{both-true}
 use Rattle.lists.proofs.Holding.{run-turn}
 use Rattle.forms.specs.declared.Layout.the-variants.{Packed}
 use Rattle.forms.specs.TableForms.{all-well, all-good}
-use Rattle.forms.proofs.PackedRows.{rows-most, row-in}
+use Rattle.codec.proofs.Rows.{row-in}
+use Rattle.forms.proofs.PackedRows.{rows-most}
 use Rattle.forms.proofs.Decoding.{row-told, row-at, row-part, part-length, rows-on, rows-start, rows-tested}
 use Rattle.forms.proofs.Decoding.{rows-ended, rows-hold}
 use borrow.Author.Needs.{needs}
@@ -48,14 +49,14 @@ loop-holds c =
 
 -- where the row at i begins, and its length
 abbrev place : tie.In-loop Inv-loop μ-loop → ℕ
-place c = 4 + c .before .loop .i * c .before .before .row-length .result
+place c = 4 + c .before .before .row-length .result * c .before .loop .i
 
 abbrev size : tie.In-loop Inv-loop μ-loop → ℕ
 size c = c .before .before .row-length .result
 
 -- it stands within the n rows, which have at most 1792 bytes
 within : (c : tie.In-loop Inv-loop μ-loop) → let n = start (c .before .before) .args .n in
-    (place c + size c ≤ 4 + n * size c) × (n * size c ≤ 1792)
+    (place c + size c ≤ 4 + size c * n) × (size c * n ≤ 1792)
 within c =
     let at-row-length = c .before .before in
     let at-start = start at-row-length in

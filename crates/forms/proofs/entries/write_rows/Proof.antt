@@ -12,7 +12,9 @@ use Rattle.tables.specs.Lists.{strings}
 use Rattle.tables.specs.Values.{entry-at}
 use Rattle.tables.proofs.Arrays.{stores-at, stores-length}
 use Rattle.forms.specs.TableForms.{rows-of}
-use Rattle.forms.proofs.PackedRows.{rows-most, row-in, rows-turn}
+use Rattle.codec.specs.Numbers.{joined}
+use Rattle.codec.proofs.Rows.{row-in}
+use Rattle.forms.proofs.PackedRows.{rows-most, rows-turn}
 use borrow.Author.Needs.{needs}
 use Rattle.forms.proofs.entries.write_rows.Statement.{statement}
 use Rattle.forms.proofs.entries.write_rows.Tie as tie
@@ -28,7 +30,7 @@ row-length-requires : tie.Need-row-length-requires Inv-loop μ-loop
 row-length-requires c κs = search needs
 
 loop-holds : tie.Need-loop-holds Inv-loop μ-loop
-unfolding rows-of
+unfolding joined
 loop-holds c = (omega arith, refl, refl)
 
 -- the start, from a turn
@@ -37,14 +39,14 @@ start c = c .before .before .before .before
 
 -- where the row at i begins, and its length
 abbrev place : tie.In-loop Inv-loop μ-loop → ℕ
-place c = 4 + c .before .loop .i * c .before .before .row-length .result
+place c = 4 + c .before .before .row-length .result * c .before .loop .i
 
 abbrev size : tie.In-loop Inv-loop μ-loop → ℕ
 size c = c .before .before .row-length .result
 
 -- it stands within the n rows, which have at most 1792 bytes
 within : (c : tie.In-loop Inv-loop μ-loop)
-    → let n = start c .args .n in (place c + size c ≤ 4 + n * size c) × (n * size c ≤ 1792) × (n ≤ 256)
+    → let n = start c .args .n in (place c + size c ≤ 4 + size c * n) × (size c * n ≤ 1792) × (n ≤ 256)
 within c =
     let at-start = start c in
     let n = at-start .args .n in
