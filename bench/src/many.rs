@@ -41,9 +41,9 @@ pub fn rows() -> Result<Vec<Row>, Refusal> {
     Ok(rows)
 }
 
-/// The change of side and one equation of either side. Strings are chosen so that few calls are full,
-/// but for the first positive ones, which all are: the change of side of 10 strings would be for 23 of
-/// 64.
+/// The change of side and one equation of either side. Strings are chosen so that few calls are full:
+/// the change of side of 10 strings would be for 23 of 64. Only of the first positive ones all are, and
+/// there the way to the refusal is timed.
 fn equations(random: &mut Random) -> Result<Vec<Row>, Refusal> {
     let strings = tables::wide_strings(random, CLAUSE, 6, 2..=3);
     let name = format!("6 strings of {CLAUSE}");

@@ -1,9 +1,9 @@
 -- The two-buffer call: one law for each way that it ends. Assumes nothing.
 use mathlib.Core.Path.{_≡_, sym, ap, ap₂, _∙_}
-use mathlib.Core.Bool.{true, false, cond}
+use mathlib.Core.Bool.{cond}
 use mathlib.Core.List.{List}
 use Prim.Native.Nat.{ℕ, _≤_, _<_}
-use borrow.Author.Tests.{leb-true, eq-eqb, ne-eqb, lt-ltb, le-ltb}
+use borrow.Author.Tests.{eq-eqb, ne-eqb, lt-ltb, le-ltb}
 use lib.Dec.{ltb, eqb}
 use lib.ListN.{length}
 use Rattle.tables.specs.declared.Refusal.{Refusal}
@@ -12,8 +12,8 @@ use Rattle.tables.specs.declared.Answered.{Answered}
 use Rattle.tables.specs.Refusals.{if-accepted}
 use Rattle.forms.specs.declared.Layout.the-variants.{Plain}
 use Rattle.forms.specs.declared.Extent.the-variants.{Front}
-use Rattle.forms.specs.TableForms.{sized, second-size, read-table}
-use Rattle.forms.proofs.Reading.{read-passed}
+use Rattle.forms.specs.TableForms.{second-size, read-table}
+use Rattle.forms.proofs.Reading.{read-passed, passed-sized}
 use Rattle.byte_calls.specs.BufferParts.{Part, front, form, smaller-part}
 
 -- a form that reads at the front of a buffer
@@ -23,8 +23,7 @@ front-reads b read e = ap (λ (a : Answered). a .answer) (sym read) ∙ e
 
 -- its sizes are there
 pub front-sized : (b : List ℕ) → read-table Front b .answer ≡ Accepted → 4 ≤ length b
-unfolding sized
-front-sized b e = leb-true 4 (length b) (read-passed Plain Front b e .sizes)
+front-sized b e = passed-sized (read-passed Plain Front b e)
 
 module _ (p q : Part) {a b : Answered} (ea : a ≡ read-table Front (p .bytes)) (eb : b ≡ read-table Front (q .bytes)) where
   -- the part, from what was read

@@ -3,7 +3,7 @@ use Prim.Native.Nat.{ℕ, zero, suc, _+_, _-_, _*_, _/_, _^_, _≤_, _<_}
 use mathlib.Core.Path.{_≡_, refl, sym, ap, ap₂, _∙_}
 use mathlib.Core.Logic.{inl, inr}
 use mathlib.Core.List.{List, [], _∷_, _++_, map, append-assoc, map-append}
-use native.Mathlib.Nat.{zero-add, mul-zero, mul-suc}
+use native.Mathlib.Nat.{zero-add, mul-zero}
 use native.Mathlib.Numerals.{add-one}
 use native.Mathlib.Omega.{arith}
 use lib.ListN.{length, getD, take, drop, set, replicate, length-append, length-map, length-drop, List·getD-map}
@@ -11,15 +11,17 @@ use lib.Pow.{pow-add}
 use lib.Seq.{getD-drop, drop-drop, drop-cons, take-append-le, drop-append-le, set-append-seam, length-take-le, sets}
 use Rattle.codec.specs.Numbers.{number, word-at, number-at, rows, words, numbers, sum, with-zeros}
 use Rattle.codec.specs.Numbers.{WordSize, word-bytes, joined, bytes}
-use Rattle.codec.proofs.Rows.{rows-count, rows-at, rows-more, rows-drop, rows-take, rows-within, Long, joined-length}
+use Rattle.codec.proofs.Rows.{rows-count, next-place, rows-at, rows-more, rows-drop, rows-take, rows-within, Long, joined-length}
 use Rattle.codec.proofs.Rows.{joined-append, rows-back, sets-append, joined-turn}
 
 -- ---- Two or four bytes
 
+-- at least two and at most four
 pub size-most : {k : ℕ} → WordSize k → (2 ≤ k) × (k ≤ 4)
 size-most (inl e) = (omega arith, omega arith)
 size-most (inr e) = (omega arith, omega arith)
 
+-- the one where it is not the other
 pub size-four : {k : ℕ} → WordSize k → ¬ (k ≡ 2) → k ≡ 4
 size-four (inl e) f = absurd (f e)
 size-four (inr e) f = e
@@ -144,8 +146,7 @@ unfolding rows sum
 words-sum k zero m b = let e : 0 + m ≡ m = omega arith in rw (e, mul-zero k) (omega arith)
 words-sum k (suc n) m b =
     let e : suc n + m ≡ suc (n + m) = omega arith in
-    let d : k * suc n ≡ k + k * n = omega (arith, mul-suc k n) in
-    rw (e, d, ← drop-drop (k * n) k b) (omega (arith, words-sum k n m (drop k b)))
+    rw (e, ← next-place k n, ← drop-drop (k * n) k b) (omega (arith, words-sum k n m (drop k b)))
 
 -- a turn of the sum
 pub sum-turn : (at i v total : ℕ) (b : List ℕ) → total ≡ sum (numbers i (drop at b)) → v ≡ number-at b (at + 2 * i)

@@ -17,8 +17,8 @@ unfolding rows
 rows-count k zero b = refl
 rows-count k (suc n) b = ap suc (rows-count k n (drop k b))
 
--- one after i others
-next-place : (k i : ℕ) → k + k * i ≡ k * suc i
+-- one row after i others
+pub next-place : (k i : ℕ) → k + k * i ≡ k * suc i
 next-place k i = omega (arith, mul-suc k i)
 
 -- the row at an index

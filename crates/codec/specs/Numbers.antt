@@ -6,6 +6,10 @@ use mathlib.Core.Logic.{_⊎_}
 use mathlib.Core.List.{List, [], _∷_, _++_, map}
 use lib.ListN.{length, take, drop, replicate}
 
+-- The words of entries have two bytes or four.
+abbrev pub WordSize : ℕ → Type 0
+WordSize k = (k ≡ 2) ⊎ (k ≡ 4)
+
 -- ---- Reading
 
 -- The number that a row of bytes is.
@@ -44,10 +48,6 @@ unfoldable pub with-zeros : ℕ → List ℕ → List ℕ
 with-zeros n ws = ws ++ replicate (n - length ws) 0
 
 -- ---- Writing
-
--- The words of entries have two or four bytes.
-abbrev pub WordSize : ℕ → Type 0
-WordSize k = (k ≡ 2) ⊎ (k ≡ 4)
 
 -- The k bytes of a number, cut to so many.
 unfoldable pub word-bytes : ℕ → ℕ → List ℕ

@@ -34,7 +34,7 @@ use Rattle.packing.specs.Packing.{row-length, unpacked}
 use Rattle.forms.specs.declared.Extent.{Extent}
 use Rattle.forms.specs.declared.Layout.{Layout}
 use Rattle.forms.specs.declared.Layout.the-variants.{Plain, Packed}
-use Rattle.forms.specs.TableForms.{first-size, second-size, form-length, cares, values, packed-rows}
+use Rattle.forms.specs.TableForms.{sized, first-size, second-size, form-length, cares, values, packed-rows}
 use Rattle.forms.specs.TableForms.{written-entries, read-form, Passed}
 use Rattle.codec.proofs.Rows.{rows-count}
 use Rattle.forms.proofs.PackedRows.{rows-wide}
@@ -64,6 +64,11 @@ entries-most Packed l n b =
     omega (arith, length-map (packed-rows l n b) (unpacked l), rows-count (row-length l) n (drop 4 b))
 
 module _ {f : Layout} {x : Extent} {b : List ℕ} (p : Passed f x b) where
+  -- a form that passes has its sizes
+  pub passed-sized : 4 ≤ length b
+  unfolding sized
+  passed-sized = leb-true 4 (length b) (p .sizes)
+
   -- a form that passes is within the bytes
   pub passed-room : form-length f (first-size b) (second-size b) ≤ length b
   passed-room = fits-room x _ (length b) (p .long)

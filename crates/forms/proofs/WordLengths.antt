@@ -2,16 +2,18 @@
 use mathlib.Core.Path.{_≡_, refl}
 use mathlib.Core.Bool.{Bool, true, false, cond}
 use mathlib.Core.Logic.{inl, inr}
-use mathlib.Core.List.{List}
+use mathlib.Core.List.{List, _++_}
 use Prim.Native.Nat.{ℕ, _+_, _*_, _≤_, _<_}
 use native.Mathlib.Nat.{mul-le-mul}
 use native.Mathlib.Omega.{arith}
 use borrow.Author.Tests.{leb-true, le-leb, lt-leb}
 use lib.Dec.{leb}
-use lib.ListN.{drop}
-use Rattle.codec.specs.Numbers.{words, WordSize}
+use lib.ListN.{take, drop}
+use Rattle.tables.specs.declared.Table.{Table}
+use Rattle.codec.specs.Numbers.{words, WordSize, bytes}
 use Rattle.codec.proofs.Laws.{size-most}
-use Rattle.forms.specs.TableForms.{word-length, table-length, cares, values}
+use Rattle.forms.specs.declared.Layout.the-variants.{Plain}
+use Rattle.forms.specs.TableForms.{word-length, table-length, cares, values, entry-bytes}
 
 -- Two bytes or four.
 pub two-or-four : (l : ℕ) {k : ℕ} → k ≡ word-length l → WordSize k
@@ -47,15 +49,35 @@ pub record OfBytes (k l n : ℕ) (b : List ℕ) : Type 0 where
   pub care-words : cares l n b ≡ words k n (drop 4 b)
   pub value-words : values l n b ≡ words k n (drop (4 + k * n) b)
 
+-- A table's entries are written as words of k bytes, the care words and then the value words.
+abbrev pub WrittenIn : ℕ → Table → Type 0
+WrittenIn k t = entry-bytes Plain t ≡ bytes k (take (t .n) (t .care) ++ take (t .n) (t .value))
+
 of-bytes : (k l n : ℕ) (b : List ℕ) → word-length l ≡ k → OfBytes k l n b
 of-bytes k l n b e = record { long = rw e; care-words = rw e; value-words = rw e }
 
--- Up to 16 variables it is the form of 01, byte for byte.
-pub up-to-16 : (l n : ℕ) (b : List ℕ) → l ≤ 16 → OfBytes 2 l n b
+written-in : (k : ℕ) (t : Table) → word-length (t .l) ≡ k → WrittenIn k t
+unfolding entry-bytes
+written-in k t e = rw e
+
+two-bytes : (l : ℕ) → l ≤ 16 → word-length l ≡ 2
 unfolding word-length
-up-to-16 l n b few = of-bytes 2 l n b (rw (le-leb l 16 few))
+two-bytes l few = rw (le-leb l 16 few)
+
+four-bytes : (l : ℕ) → 16 < l → word-length l ≡ 4
+unfolding word-length
+four-bytes l more = rw (lt-leb l 16 more)
+
+-- Up to 16 variables a form is read and written as in 01.
+pub up-to-16 : (l n : ℕ) (b : List ℕ) → l ≤ 16 → OfBytes 2 l n b
+up-to-16 l n b few = of-bytes 2 l n b (two-bytes l few)
+
+pub written-to-16 : (t : Table) → t .l ≤ 16 → WrittenIn 2 t
+written-to-16 t few = written-in 2 t (two-bytes (t .l) few)
 
 -- From 17 on its words have four bytes.
 pub from-17 : (l n : ℕ) (b : List ℕ) → 16 < l → OfBytes 4 l n b
-unfolding word-length
-from-17 l n b more = of-bytes 4 l n b (rw (lt-leb l 16 more))
+from-17 l n b more = of-bytes 4 l n b (four-bytes l more)
+
+pub written-from-17 : (t : Table) → 16 < t .l → WrittenIn 4 t
+written-from-17 t more = written-in 4 t (four-bytes (t .l) more)

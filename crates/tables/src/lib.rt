@@ -110,7 +110,7 @@ impl Table {
     }
 }
 
-// Has a table so many variables: is l 1 to 32?
+// Is l one of 1 to 32?
 pub fn good_width(l: u32) -> bool
     ensures { λ r. ⌜ r ≡ good-width l ⌝ }
 {

@@ -1,15 +1,13 @@
 -- A form that reads has passed its tests, so that its sizes are there and in their bounds, and it is within the bytes.
 use mathlib.Core.Path.{ap₂, _∙_}
-use Prim.Native.Nat.{_≤_}
 use native.Mathlib.Omega.{arith}
 use borrow.Author.Tests.{leb-true}
-use lib.ListN.{length}
 use Rattle.model.specs.Growth.{limit}
 use Rattle.tables.proofs.Checking.{width-most}
 use Rattle.forms.specs.declared.Extent.the-variants.{Front}
 use Rattle.forms.specs.declared.Layout.the-variants.{Plain}
-use Rattle.forms.specs.TableForms.{sized, table-length, Passed}
-use Rattle.forms.proofs.Reading.{read-passed, passed-room}
+use Rattle.forms.specs.TableForms.{table-length, Passed}
+use Rattle.forms.proofs.Reading.{read-passed, passed-sized, passed-room}
 use borrow.Author.Needs.{needs}
 use Rattle.forms.proofs.front_length.Statement.{statement}
 use Rattle.forms.proofs.front_length.Tie as tie
@@ -18,19 +16,14 @@ use Rattle.forms.proofs.front_length.Tie as tie
 passed : (c : tie.Start) → Passed Plain Front (c .args .b .now)
 passed c = read-passed Plain Front (c .args .b .now) (c .pre)
 
--- its sizes are there
-sizes : (c : tie.Start) → 4 ≤ length (c .args .b .now)
-unfolding sized
-sizes c = leb-true 4 (length (c .args .b .now)) (passed c .sizes)
-
 number-at-requires : tie.Need-number-at-requires
-number-at-requires c κs = omega (arith, sizes (c .before))
+number-at-requires c κs = omega (arith, passed-sized (passed (c .before)))
 
 cast-l : tie.Need-cast-l
 cast-l c = search needs
 
 number-at-requires-2 : tie.Need-number-at-requires-2
-number-at-requires-2 c κs = omega (arith, sizes (c .before .before))
+number-at-requires-2 c κs = omega (arith, passed-sized (passed (c .before .before)))
 
 cast-n : tie.Need-cast-n
 cast-n c = search needs
