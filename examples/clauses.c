@@ -117,14 +117,22 @@ static void start(const clause *c, form *table) {
     project(table, c->l);
 }
 
+/* The table after X = t. After X = f(X) it has no group; X = X says nothing. */
+static void equate_argument(form *table, uint32_t variable, argument t) {
+    if (t.variable == 0 && (t.set >> (variable - 1) & 1) != 0)
+        STEP(table, width(table), sharing_empty(width(table), OUT));
+    else
+        equate(table, variable, t.set);
+}
+
 /* The table after an equation. Two terms are each equal to a further variable. */
 static void after_equation(const goal *g, form *table) {
     argument left = g->arguments[0], right = g->arguments[1];
     uint32_t l = width(table);
     if (left.variable != 0)
-        equate(table, left.variable, right.set);
+        equate_argument(table, left.variable, right);
     else if (right.variable != 0)
-        equate(table, right.variable, left.set);
+        equate_argument(table, right.variable, left);
     else if (l == MAX_VARIABLES)
         STEP(table, l, sharing_unknown_goal(TABLE(table), g->set, OUT));
     else {

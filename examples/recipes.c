@@ -257,6 +257,19 @@ static void symbols(void) {
     show("X1 = f(X2), with the symbol 1", other);
 }
 
+/* 11. X1 = X1 says nothing; X1 = f(X1) never holds. */
+static void own_term(void) {
+    form before = table_of("110 101"), same, none;
+    printf("\n11. A variable in its own term\n");
+    const uint32_t alone[] = {1}, deeper[] = {sharing_head(0, 1), 1};
+    row x1 = row_of(alone, 1), f_x1 = row_of(deeper, 2);
+    need(sharing_equation(POSITIVE(before), 1, TERM(x1), OUT(same)));
+    show("after X1 = X1", same);
+    need(sharing_equation(POSITIVE(before), 1, TERM(f_x1), OUT(none)));
+    int never = sharing_occurs(1, TERM(f_x1)) == SHARING_OCCURS_DEEPER;
+    show(never ? "after X1 = f(X1), which never holds" : "no such term", none);
+}
+
 int main(void) {
     printf("The recipes of docs/COMPILER.md\n");
     start_clause();
@@ -269,5 +282,6 @@ int main(void) {
     two_terms();
     arity_zero();
     symbols();
+    own_term();
     return EXIT_SUCCESS;
 }

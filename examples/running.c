@@ -127,7 +127,7 @@ static void parish(void) {
 }
 
 /*
- * Sixteen variables, each of which may share with the next one. X1 = f(X1, ..., X15) needs entry
+ * Sixteen variables, each of which may share with the next one. X1 = f(X2, ..., X15) needs entry
  * 257, and is run all the same.
  */
 static void full(void) {
@@ -142,7 +142,7 @@ static void full(void) {
     print_state("start", state.code, &state);
     equation(&state, "X16 = a", 16, 0, RUNS_IT);
     ask("X2 beside X4?", &state, 1u << 1, 1u << 3);
-    equation(&state, "X1 = f(X1, ..., X15)", 1, sharing_variables(15), RUNS_IT);
+    equation(&state, "X1 = f(X2, ..., X15)", 1, sharing_variables(15) & ~1u, RUNS_IT);
     ask("X2 beside X4?", &state, 1u << 1, 1u << 3);
     equation(&state, "X2 = a", 2, 0, RUNS_IT);
     ask("X2 beside X4?", &state, 1u << 1, 1u << 3);

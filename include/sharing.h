@@ -62,6 +62,15 @@
  *     5   token by token, to the last one: a variable that is not 1 to l
  *     6   the tokens are not one whole term; no tokens at all are 6 too
  *
+ * A variable set equal to itself
+ *   Where the term of "variable = term" is that variable and nothing else, as in X1 = X1, the
+ *   equation says nothing: the table stays as it is. Where the variable stands deeper in its term,
+ *   as in X1 = f(X1), no finite term solves the equation (the occurs check). Then the table after
+ *   it has no group: it has no entry if it is positive and one entry of stars if it is negative;
+ *   no bindings go on from it. Both come after the checks of the equation, and are never 8.
+ *   This holds in every call with an equation, and for each equation that is found in two terms. A
+ *   table that is given as bytes is read first: it stays as it was read.
+ *
  * Two terms set equal
  *   In an equation "left = right" of two terms either may be compound, a constant or a variable.
  *   They are walked together, arguments left to right: a variable on the left makes an equation
@@ -70,7 +79,8 @@
  *   then X4 = g(X2).
  *   The walk is finished before anything is applied. Then the equations that it found are applied
  *   in order, each to what the last one gave, as sharing_equation does it; one that needs entry
- *   257 refuses the whole call 8. Where none was found, as in a = a, the table stays as it is.
+ *   257 refuses the whole call 8, also where a later one has no finite solution. Where none was
+ *   found, as in a = a, the table stays as it is.
  *   After a clash, wherever it stands, the table has no group: it has no entry if it is positive
  *   and one entry of stars if it is negative. Such a call is accepted, never 8. The equation has
  *   failed, and no bindings go on from it.
@@ -129,7 +139,7 @@
 
 /* The version, which stands here and nowhere else, as numbers and as text. */
 #define SHARING_VERSION_MAJOR 0
-#define SHARING_VERSION_MINOR 5
+#define SHARING_VERSION_MINOR 6
 #define SHARING_VERSION_PATCH 0
 #define SHARING_VERSION                                                                            \
     SHARING_QUOTED(SHARING_VERSION_MAJOR)                                                          \
@@ -254,7 +264,8 @@ uint32_t sharing_change_side(uint32_t side, const uint8_t *table, size_t table_l
                              size_t out_len);
 
 /*
- * The table after the equation "variable = term".
+ * The table after the equation "variable = term": see "A variable set equal to itself" above where
+ * the term has the variable.
  * Reads table and term. Writes the form, of the same side, to out.
  * Refusals in order: TABLE FORM; TERM; 8; 9.
  * After a refusal: out is as it was.

@@ -291,7 +291,22 @@ static inline const char *sharing_refusal_sentence(uint32_t code) {
                                                          : "no answer of the calls";
 }
 
-/* ---- Two terms: what sharing_unify finds in them, for those who want to see or to tell it */
+/* ---- Equations: what they come to by their terms, for those who want to see or to tell it */
+
+/* Where the left variable of an equation "variable = term" stands in its term. */
+enum {
+    SHARING_OCCURS_NOT = 0,
+    SHARING_OCCURS_ALONE = 1, /* the term is the variable: the equation says nothing */
+    SHARING_OCCURS_DEEPER = 2 /* no finite term solves it, and the table after it has no group */
+};
+
+/* The same of an equation that sharing_equation accepts: see sharing.h. */
+static inline uint32_t sharing_occurs(uint32_t variable, const uint8_t *term, size_t term_len) {
+    for (size_t place = 0; place < term_len / 2; place++)
+        if (sharing_word_at(term, place) == variable)
+            return term_len == 2 ? SHARING_OCCURS_ALONE : SHARING_OCCURS_DEEPER;
+    return SHARING_OCCURS_NOT;
+}
 
 /* The length in bytes of the term at the front of a row of tokens; 0 where it is not whole. */
 static inline size_t sharing_term_length(const uint8_t *row, size_t row_len) {
@@ -368,7 +383,8 @@ static inline uint32_t sharing_walk_next(sharing_walk *walk, sharing_found *foun
 
 /*
  * Do two terms that sharing_unify accepts clash? The table after it has no group then; but a table
- * without groups does not say why it has none.
+ * without groups does not say why it has none. Where they do not clash, sharing_occurs tells
+ * whether an equation that is found has no finite solution.
  */
 static inline int sharing_terms_clash(const uint8_t *left, size_t left_len, const uint8_t *right,
                                       size_t right_len) {
@@ -568,22 +584,31 @@ enum { SHARING_SET_TERM = 2 * (2 * SHARING_MAX_VARIABLES + 1) };
 
 /*
  * Writes a term that has exactly the variables of a set, for sharing_equation and sharing_step: the
- * table after an equation depends on nothing else of the term. term has SHARING_SET_TERM bytes.
- * Returns the length of what was written.
+ * table after an equation depends on nothing else of the term, unless the left variable is in it.
+ * A set of one variable gives that variable alone. Set equal to itself it leaves the table as it
+ * is, which is sound for X = X and also for X = f(X), from which no bindings go on.
+ * term has SHARING_SET_TERM bytes. Returns the length of what was written.
  */
 static inline size_t sharing_set_term(uint32_t variables, uint8_t *term) {
     size_t tokens = 0;
-    for (uint32_t x = 1; x <= SHARING_MAX_VARIABLES; x++)
+    for (uint32_t x = 1; x <= SHARING_MAX_VARIABLES; x++) {
+        if (variables == (uint32_t)1 << (x - 1)) {
+            sharing_put_word(term, 0, x);
+            return 2;
+        }
         if (variables >> (x - 1) & 1) {
             sharing_put_word(term, tokens++, sharing_head(0, 2));
             sharing_put_word(term, tokens++, x);
         }
+    }
     sharing_put_word(term, tokens++, sharing_head(0, 0));
     return 2 * tokens;
 }
 
 /*
- * The table after "variable = t" for any t that has exactly the variables of a set.
+ * The table after "variable = t" for any t that has exactly the variables of a set. Where the set
+ * is the variable alone, t may be it or have it deeper: the table is read and written again, which
+ * is sound for both. Where the set has the variable and others, the table after it has no group.
  * Refusals in order: TABLE FORM; 5 where variable is not 1 to l; 5 where the set has a bit above l;
  * 8; 9.
  */
@@ -614,40 +639,120 @@ static inline uint32_t sharing_intersect(const uint8_t *first, size_t first_len,
     return sharing_join(SHARING_NEGATIVE, first, first_len, second, second_len, out, out_len);
 }
 
+/* The form, in a buffer of SHARING_MAX_FORM bytes, with a variable taken out of every group. */
+static inline uint32_t sharing_take_out(const uint8_t *form, uint32_t variable, uint8_t *out,
+                                        size_t out_len) {
+    uint32_t from[SHARING_MAX_VARIABLES], l = sharing_word_at(form, 0);
+    for (uint32_t i = 0; i < l; i++)
+        from[i] = i + 1 == variable ? 0 : i + 1;
+    return sharing_select(SHARING_POSITIVE, form, sharing_front_length(form, SHARING_MAX_FORM),
+                          from, l, out, out_len);
+}
+
+/*
+ * Of such a form and a variable that is in no group of it: every "or" of one or more groups that
+ * meet a set, with the variable in each, and the groups that do not meet the set. For that the
+ * variable is made free, and set equal to a term of the set, which does not have it.
+ */
+static inline uint32_t sharing_mark(const uint8_t *form, uint32_t variable, uint32_t variables,
+                                    uint8_t *out, size_t out_len) {
+    uint8_t alone[4 + 8], joined[SHARING_MAX_FORM];
+    uint32_t l = sharing_word_at(form, 0);
+    const sharing_entry entry = {sharing_variables(l), (uint32_t)1 << (variable - 1)};
+    uint32_t code = sharing_make_form(l, &entry, 1, alone, sizeof alone);
+    if (code == SHARING_ACCEPTED)
+        code = sharing_join(SHARING_POSITIVE, form, sharing_front_length(form, SHARING_MAX_FORM),
+                            alone, sharing_form_length(l, 1), joined, sizeof joined);
+    if (code != SHARING_ACCEPTED)
+        return code;
+    return sharing_set_equation(SHARING_POSITIVE, joined,
+                                sharing_front_length(joined, sizeof joined), variable, variables,
+                                out, out_len);
+}
+
+/* The groups of a table that have a variable, where `digit` is 1, or have it not. */
+static inline uint32_t sharing_part_with(const uint8_t *table, size_t table_len, uint32_t variable,
+                                         uint32_t digit, uint8_t *out, size_t out_len) {
+    uint8_t one[4 + 8];
+    uint32_t l = sharing_word_at(table, 0);
+    const sharing_entry entry = {(uint32_t)1 << (variable - 1), digit << (variable - 1)};
+    uint32_t code = sharing_make_form(l, &entry, 1, one, sizeof one);
+    if (code != SHARING_ACCEPTED)
+        return code;
+    return sharing_intersect(table, table_len, one, sharing_form_length(l, 1), out, out_len);
+}
+
+/*
+ * As sharing_unknown_goal, where no further variable is left; l is at least 2. A variable x of the
+ * goal is the mark. An "or" of groups that all lack x is made of the part without x. One of groups
+ * with x and groups with another variable of the goal is made by the equation between x and these.
+ * Any other is made of the part with x, out of which x is taken for it.
+ */
+static inline uint32_t sharing_unknown_within(const uint8_t *table, size_t table_len, uint32_t x,
+                                              uint32_t variables, uint8_t *out, size_t out_len) {
+    uint8_t a[SHARING_MAX_FORM], b[SHARING_MAX_FORM], c[SHARING_MAX_FORM];
+    const size_t most = SHARING_MAX_FORM;
+    uint32_t mark = (uint32_t)1 << (x - 1), others = variables & ~mark;
+    uint32_t code = sharing_part_with(table, table_len, x, 0, a, most);
+    if (code == SHARING_ACCEPTED)
+        code = sharing_mark(a, x, others, b, most);
+    if (code == SHARING_ACCEPTED)
+        code = sharing_take_out(b, x, a, most);
+    if (code == SHARING_ACCEPTED)
+        code = sharing_set_equation(SHARING_POSITIVE, table, table_len, x, others, b, most);
+    if (code == SHARING_ACCEPTED)
+        code = sharing_join(SHARING_POSITIVE, a, sharing_front_length(a, most), b,
+                            sharing_front_length(b, most), c, most);
+    if (code == SHARING_ACCEPTED)
+        code = sharing_part_with(table, table_len, x, 1, a, most);
+    if (code == SHARING_ACCEPTED)
+        code = sharing_join(SHARING_POSITIVE, c, sharing_front_length(c, most), a,
+                            sharing_front_length(a, most), b, most);
+    if (code == SHARING_ACCEPTED)
+        code = sharing_take_out(a, x, c, most);
+    if (code == SHARING_ACCEPTED)
+        code = sharing_mark(c, x, sharing_variables(sharing_word_at(table, 0)) & ~mark, a, most);
+    if (code != SHARING_ACCEPTED)
+        return code;
+    return sharing_join(SHARING_POSITIVE, b, sharing_front_length(b, most), a,
+                        sharing_front_length(a, most), out, out_len);
+}
+
 /*
  * The table after a goal of which nothing is known but the set of variables in its arguments.
  * The new groups are those that have none of these variables, and every "or" of one or more that
  * have some. Where the set is empty the table is read and written again.
  * Refusals in order: TABLE FORM; 5 where the set has a bit above l; 8 where a step needs entry 257;
  * 9.
- * How: for each variable of the set, the equation with a term of the whole set; the join of all.
+ * How: a further free variable is set equal to a term of the whole set, and projected away again.
+ * A table of 32 variables has no room for it: see sharing_unknown_within.
  */
 SHARING_MUST_USE
 static inline uint32_t sharing_unknown_goal(const uint8_t *table, size_t table_len,
                                             uint32_t variables, uint8_t *out, size_t out_len) {
-    uint8_t sum[SHARING_MAX_FORM], one[SHARING_MAX_FORM], both[SHARING_MAX_FORM];
-    uint32_t code = sharing_check(table, table_len), first = 1;
+    uint8_t wider[SHARING_MAX_FORM], closed[SHARING_MAX_FORM];
+    uint32_t x = 1, code = sharing_check(table, table_len);
     if (code != SHARING_ACCEPTED)
         return code;
-    if ((variables & ~sharing_variables(sharing_word_at(table, 0))) != 0)
+    uint32_t l = sharing_word_at(table, 0);
+    if ((variables & ~sharing_variables(l)) != 0)
         return SHARING_NAME;
     if (variables == 0)
         return sharing_read(table, table_len, out, out_len);
-    for (uint32_t x = 1; x <= SHARING_MAX_VARIABLES; x++) {
-        if ((variables >> (x - 1) & 1) == 0)
-            continue;
-        code = sharing_set_equation(SHARING_POSITIVE, table, table_len, x, variables,
-                                    first ? sum : one, SHARING_MAX_FORM);
-        if (code == SHARING_ACCEPTED && !first) {
-            code = sharing_join(SHARING_POSITIVE, sum, sharing_front_length(sum, sizeof sum), one,
-                                sharing_front_length(one, sizeof one), both, sizeof both);
-            memcpy(sum, both, sizeof sum);
-        }
-        if (code != SHARING_ACCEPTED)
-            return code;
-        first = 0;
+    if (l == SHARING_MAX_VARIABLES) {
+        while ((variables >> (x - 1) & 1) == 0)
+            x++;
+        return sharing_unknown_within(table, table_len, x, variables, out, out_len);
     }
-    return sharing_read(sum, sharing_front_length(sum, sizeof sum), out, out_len);
+    code = sharing_add_free(table, table_len, 1, wider, sizeof wider);
+    if (code == SHARING_ACCEPTED)
+        code = sharing_set_equation(SHARING_POSITIVE, wider,
+                                    sharing_front_length(wider, sizeof wider), l + 1, variables,
+                                    closed, sizeof closed);
+    if (code != SHARING_ACCEPTED)
+        return code;
+    return sharing_project(SHARING_POSITIVE, closed, sharing_front_length(closed, sizeof closed),
+                           sharing_variables(l), out, out_len);
 }
 
 /* The entries of an exit form at the arguments of a goal, stars elsewhere; returns their number. */

@@ -11,20 +11,20 @@ static void put(uint8_t *at, unsigned word) {
     at[1] = (uint8_t)(word >> 8);
 }
 
-/* The number of variables; the terms name the last one. */
+/* The number of variables. */
 static unsigned l;
 
-/* So many heads of one argument, then heads of `arity` arguments, all of them variables but the last: so many tokens in all. */
-static void nest(uint8_t *term, unsigned tokens, unsigned first, unsigned arity) {
+/* So many heads of one argument, then heads of `arity` arguments, all of them variable x but the last: so many tokens in all. */
+static void nest(uint8_t *term, unsigned tokens, unsigned first, unsigned arity, unsigned x) {
     for (unsigned i = 0; i + 1 < tokens; i++) {
-        unsigned token = l;
+        unsigned token = x;
         if (i < first)
             token = HEAD + 1;
         else if ((i - first) % arity == 0)
             token = HEAD + arity;
         put(term + 2 * i, token);
     }
-    put(term + 2 * (tokens - 1), l);
+    put(term + 2 * (tokens - 1), x);
 }
 
 /* A table of one entry, with 1 at X1 and 0 at X2, of 16 or of 32 variables. Gives the length of its form. */
@@ -72,14 +72,15 @@ static int answers_to_two(const uint8_t *terms, size_t left, size_t right) {
     return 0;
 }
 
-/* Two terms of heads of `arity` arguments, as long as each other or not. */
-static int two_terms(unsigned arity) {
+/* Two terms of heads of `arity` arguments, as long as each other or not, with variables of their own or with the same one, so that
+   it is set equal to itself or to a term that has it. */
+static int two_terms(unsigned arity, unsigned x) {
     static uint8_t terms[2 * TOKENS];
     static const unsigned lefts[] = {1, 2, 256, TOKENS / 2, TOKENS - 256, TOKENS - 2, TOKENS - 1};
     for (size_t i = 0; i < sizeof lefts / sizeof lefts[0]; i++) {
         unsigned left = lefts[i], right = TOKENS - left;
-        nest(terms, left, (left - 1) % arity, arity);
-        nest(terms + 2 * left, right, (right - 1) % arity, arity);
+        nest(terms, left, (left - 1) % arity, arity, x);
+        nest(terms + 2 * left, right, (right - 1) % arity, arity, l);
         if (answers_to_two(terms, left, right) != 0)
             return 1;
     }
@@ -91,9 +92,12 @@ int main(void) {
     const unsigned shapes[][2] = {{TOKENS - 1, 1}, {1, 2}, {3, 15}};
     for (l = 16; l <= 32; l += 16)
         for (size_t i = 0; i < sizeof shapes / sizeof shapes[0]; i++) {
-            nest(term, TOKENS, shapes[i][0], shapes[i][1]);
-            if (answers(term) != 0 || two_terms(shapes[i][1]) != 0)
+            nest(term, TOKENS, shapes[i][0], shapes[i][1], l);
+            if (answers(term) != 0 || two_terms(shapes[i][1], 1) != 0 || two_terms(shapes[i][1], l) != 0)
                 return printf("of %u variables\n", l);
+            nest(term, TOKENS, shapes[i][0], shapes[i][1], 1);
+            if (answers(term) != 0)
+                return printf("of %u variables, with the left one in the term\n", l);
         }
     return 0;
 }

@@ -83,12 +83,13 @@ static size_t measured(unsigned char *stack) {
     return STACK - kept;
 }
 
-/* Heads of `arity` arguments, all of them X1 but the last, which nests: so many tokens in all. */
-static void nest(uint8_t *row, size_t tokens, uint32_t arity) {
+/* Heads of `arity` arguments, all of them variable x but the last, which nests: so many tokens in
+ * all. Both sides of an equation have variables of their own, so that the table is worked on. */
+static void nest(uint8_t *row, size_t tokens, uint32_t arity, uint32_t x) {
     size_t first = (tokens - 1) % arity;
     for (size_t i = 0; i < tokens; i++) {
         uint32_t head = i < first ? 1 : (i - first) % arity == 0 ? arity : 0;
-        sharing_put_word(row, i, head != 0 && i + 1 < tokens ? sharing_head(0, head) : 1);
+        sharing_put_word(row, i, head != 0 && i + 1 < tokens ? sharing_head(0, head) : x);
     }
 }
 
@@ -97,8 +98,8 @@ static void make_terms(size_t tokens, size_t left, uint32_t arity) {
     left_len = 2 * left;
     term_len = 2 * tokens;
     if (left > 0)
-        nest(term, left, arity);
-    nest(term + left_len, tokens - left, arity);
+        nest(term, left, arity, 1);
+    nest(term + left_len, tokens - left, arity, 2);
     sharing_put_word(equations, 0, 1);
     sharing_put_word(equations, 1, (uint32_t)tokens);
     sharing_put_word(equations, 2, left > 0 ? (uint32_t)left : 1);

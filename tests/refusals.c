@@ -81,6 +81,7 @@ static const bad_form bad_tables[] = {
 
 /* Terms, for tables of three variables. */
 static uint8_t zeros[2 * SHARING_MAX_TOKENS + 3];
+static const uint8_t variable_1[] = {WORD(1)};
 static const uint8_t variable_2[] = {WORD(2)};
 static const uint8_t variable_4[] = {WORD(4)};
 static const uint8_t two_then_4[] = {WORD(2), WORD(4)};
@@ -309,6 +310,64 @@ static void two_terms_set_equal(void) {
           state.table.value[0] == 5 && state.table.value[1] == 10);
 }
 
+/* The calls on one equation between X1 and a term, and on it as the argument of f on both sides,
+ * write the bytes due, and so does a run of both, X1 = X1 first. */
+static void own_equation(uint32_t side, const uint8_t *term, size_t len, bad_form due) {
+    uint8_t left[] = {WORD(0x8021), WORD(1)}, right[8] = {WORD(0x8021)};
+    uint8_t run[40] = {WORD(2), WORD(1 + len / 2), WORD(1), WORD(1), WORD(1), WORD(len / 2), WORD(1)};
+    memcpy(right + 2, term, len);
+    memcpy(run + 14, term, len);
+    HOLDS(sharing_equation(side, BYTES(good), 1, term, len, out, due.len) == SHARING_ACCEPTED);
+    HOLDS(wrote(due.bytes, due.len));
+    EXPECT(SHARING_NARROW, sharing_equation(side, BYTES(good), 1, term, len, out, due.len - 1));
+    HOLDS(sharing_unify(side, BYTES(good), BYTES(left), right, 2 + len, out, due.len) ==
+          SHARING_ACCEPTED);
+    HOLDS(wrote(due.bytes, due.len));
+    HOLDS(sharing_unify(side, BYTES(good), term, len, BYTES(variable_1), out, due.len) ==
+          SHARING_ACCEPTED);
+    HOLDS(wrote(due.bytes, due.len));
+    sharing_running state = sharing_start(side, BYTES(good));
+    EXPECT(SHARING_ACCEPTED, sharing_unify_step(&state, right, 2 + len, BYTES(left)));
+    EXPECT(SHARING_ACCEPTED, sharing_step(&state, 1, term, len));
+    HOLDS(state.applied == 2 && sharing_write(&state, out, due.len) == SHARING_ACCEPTED);
+    HOLDS(wrote(due.bytes, due.len));
+    state = sharing_run(side, BYTES(good), run, 14 + len);
+    HOLDS(state.code == SHARING_ACCEPTED && state.applied == 2);
+    HOLDS(sharing_write(&state, out, due.len) == SHARING_ACCEPTED && wrote(due.bytes, due.len));
+    const uint8_t sizes[] = {WORD(1), WORD(3 + len / 2), WORD(2), WORD(1 + len / 2)};
+    memcpy(run, sizes, sizeof sizes);
+    memcpy(run + sizeof sizes, left, sizeof left);
+    memcpy(run + sizeof sizes + sizeof left, right, 2 + len);
+    state = sharing_unify_run(side, BYTES(good), run, sizeof sizes + sizeof left + 2 + len);
+    HOLDS(state.code == SHARING_ACCEPTED && state.applied == 1);
+    HOLDS(sharing_write(&state, out, due.len) == SHARING_ACCEPTED && wrote(due.bytes, due.len));
+}
+
+/* A variable set equal to itself leaves the table as it is, one set equal to a term that has it
+ * deeper leaves no group. A value in a state is not even grown. */
+static void set_equal_to_itself(void) {
+    static const uint8_t empty[] = {WORD(3), WORD(0)}, stars[] = {WORD(3), WORD(1), WORD(0), WORD(0)};
+    static const uint8_t f_x1[] = {WORD(0x8011), WORD(1)};
+    static const uint8_t f_x2_x1[] = {WORD(0x8012), WORD(2), WORD(1)};
+    const bad_form same = {BYTES(good), 0}, none[] = {{BYTES(empty), 0}, {BYTES(stars), 0}};
+    for (uint32_t side = 0; side < 2; side++) {
+        own_equation(side, BYTES(variable_1), same);
+        own_equation(side, BYTES(f_x1), none[side]);
+        own_equation(side, BYTES(f_x2_x1), none[side]);
+        sharing_running state = sharing_start(side, BYTES(good)), before;
+        for (size_t i = 3; i < SHARING_MAX_ENTRIES; i++) {
+            state.table.care[i] = state.table.care[i % 3];
+            state.table.value[i] = state.table.value[i % 3];
+        }
+        state.table.n = SHARING_MAX_ENTRIES;
+        memcpy(&before, &state, sizeof state);
+        before.applied = 2;
+        EXPECT(SHARING_ACCEPTED, sharing_step(&state, 1, BYTES(variable_1)));
+        EXPECT(SHARING_ACCEPTED, sharing_unify_step(&state, BYTES(f_x1), BYTES(f_x1)));
+        HOLDS(same_state(&state, &before));
+    }
+}
+
 /* The refusals of the form of equations. */
 static void refuse_equations(void) {
     static const uint8_t e_65[] = {WORD(65), WORD(1025)};
@@ -443,7 +502,24 @@ static void refuse_full_pair(const uint8_t *table, size_t table_len, const uint8
     HOLDS(state.code == SHARING_ACCEPTED && state.applied == 2 && state.table.n == 0);
 }
 
-/* Full, of an equation: each variable may share with the next one, and X1 = f(X1, ..., X15). */
+/* The equation between X1 and that term in a walk with X16 = g(X16): the one that is found first
+ * says whether the call is full, since nothing is full after no groups. */
+static void full_beside_deeper(const uint8_t *table, size_t table_len, const uint8_t term[2 * 16]) {
+    const uint8_t full_first[] = {WORD(0x8022), WORD(1), WORD(16)};
+    const uint8_t full_last[] = {WORD(0x8022), WORD(16), WORD(1)};
+    const uint8_t deeper[] = {WORD(0x8011), WORD(16)};
+    uint8_t right[2 * 19] = {WORD(0x8022)};
+    memcpy(right + 2, term, 2 * 16);
+    memcpy(right + 2 * 17, deeper, sizeof deeper);
+    EXPECT(SHARING_FULL, sharing_unify(0, table, table_len, BYTES(full_first), BYTES(right), out, 0));
+    memcpy(right + 2, deeper, sizeof deeper);
+    memcpy(right + 6, term, 2 * 16);
+    EXPECT(SHARING_ACCEPTED,
+           sharing_unify(0, table, table_len, BYTES(full_last), BYTES(right), out, 4));
+}
+
+/* Full, of an equation: each variable may share with the next one, and X1 = f(X2, ..., X16). With X1
+ * for X16 it has no finite solution, and is not full. In a run X1 = X1 stands before it. */
 static void refuse_full_equation(void) {
     static uint8_t next[4 + 4 * 15], term[2 * 16], run[4 + 4 * 2 + 2 * 17];
     uint32_t words[15];
@@ -454,7 +530,7 @@ static void refuse_full_equation(void) {
     term[0] = 0x1f;
     term[1] = 0x80;
     for (int i = 1; i < 16; i++)
-        term[2 * i] = (uint8_t)i;
+        term[2 * i] = (uint8_t)(i + 1);
     memcpy(run, sizes, sizeof sizes);
     memcpy(run + sizeof sizes, term, sizeof term);
     EXPECT(SHARING_FULL, sharing_equation(0, BYTES(next), 1, BYTES(term), out, 0));
@@ -465,6 +541,14 @@ static void refuse_full_equation(void) {
     state = sharing_run(0, BYTES(next), BYTES(run));
     HOLDS(state.code == SHARING_FULL && state.applied == 1 && state.table.n == 15);
     refuse_full_pair(BYTES(next), term);
+    full_beside_deeper(BYTES(next), term);
+    term[2 * 15] = 1;
+    memcpy(run + sizeof sizes, term, sizeof term);
+    EXPECT(SHARING_ACCEPTED, sharing_equation(0, BYTES(next), 1, BYTES(term), out, 4));
+    EXPECT(SHARING_ACCEPTED, sharing_step(&state, 1, BYTES(term)));
+    HOLDS(state.code == SHARING_ACCEPTED && state.applied == 2 && state.table.n == 0);
+    state = sharing_run(0, BYTES(next), BYTES(run));
+    HOLDS(state.code == SHARING_ACCEPTED && state.applied == 2 && state.table.n == 0);
 }
 
 /* The two-buffer call: where the part stands, and when it is empty. */
@@ -652,6 +736,7 @@ int main(void) {
     refuse_equations();
     refuse_term_equations();
     two_terms_set_equal();
+    set_equal_to_itself();
     refuse_rest();
     refuse_values();
     refuse_full_lists(16, 2);

@@ -40,7 +40,7 @@ static void calls(size_t i, result *got) {
     got->codes[3] = sharing_change_side(i % 2, one, one_len, got->forms[3].bytes, sizeof(form));
     got->codes[4] = sharing_equal(one, one_len, two, two_len, &got->answers[0]);
     got->codes[5] = sharing_independent(i % 2, one, one_len, 0x3, 0x70, &got->answers[1]);
-    got->codes[6] = sharing_step(&state, 2, term, term_len);
+    got->codes[6] = sharing_step(&state, 4, term, term_len);
     got->codes[7] = sharing_write(&state, got->forms[4].bytes, sizeof(form));
     got->codes[8] = sharing_pack(one, one_len, got->forms[5].bytes, sizeof(form));
     got->codes[9] = sharing_unpack(got->forms[5].bytes,

@@ -652,7 +652,45 @@ static size_t random_term(uint32_t variables, uint8_t *term) {
     return 2 * tokens;
 }
 
-/* The table after an equation depends on the variables of the term alone: not on its symbols. */
+/* The table without groups of a side. */
+static form no_groups(uint32_t side, uint32_t l) {
+    HOLDS((side == SHARING_POSITIVE ? sharing_empty(l, out, sizeof out)
+                                    : sharing_all_star(l, out, sizeof out)) == 0);
+    return taken();
+}
+
+/* A variable set equal to itself, and to random terms that have it deeper: sharing_occurs tells the
+ * two from each other and from all other equations, and so does the table. */
+static void own_terms(void) {
+    unsigned seen[3] = {0, 0, 0};
+    for (int round = 0; round < ROUNDS; round++) {
+        uint32_t side = any(2), l = any_l(), x = 1 + any(l), y = any(2) ? x : 1 + any(l);
+        uint32_t variables = any_word() & any_word() & all_of(l);
+        uint8_t term[800];
+        form table = random_form(l, any(4)), none = no_groups(side, l);
+        uint32_t alone = any(3) == 0, kind = alone ? x == y : 2 * (variables >> (x - 1) & 1);
+        size_t len = alone ? 2 : random_term(variables, term);
+        if (alone)
+            sharing_put_word(term, 0, y);
+        HOLDS(sharing_occurs(x, term, len) == kind);
+        seen[kind]++;
+        if (kind == SHARING_OCCURS_NOT)
+            continue;
+        HOLDS(sharing_read(table.bytes, table.len, out, sizeof out) == 0);
+        form read = taken(), due = kind == SHARING_OCCURS_ALONE ? read : none;
+        HOLDS(sharing_equation(side, table.bytes, table.len, x, term, len, out, due.len) == 0);
+        HOLDS(memcmp(out, due.bytes, due.len) == 0);
+        memset(out, FILL, sizeof out);
+        sharing_running state = sharing_start(side, table.bytes, table.len);
+        HOLDS(sharing_step(&state, x, term, len) == 0 && state.applied == 1);
+        HOLDS(sharing_write(&state, out, due.len) == 0 && memcmp(out, due.bytes, due.len) == 0);
+        memset(out, FILL, sizeof out);
+    }
+    HOLDS(seen[0] > ROUNDS / 10 && seen[1] > ROUNDS / 10 && seen[2] > ROUNDS / 10);
+}
+
+/* The table after an equation depends on the variables of the term alone, not on its symbols; but a
+ * set of the left variable alone may be that variable, and then the table stays. */
 static void set_terms(void) {
     uint8_t term[400], set[SHARING_SET_TERM];
     const uint8_t loose[] = {2, 0, 1, 0, 1, 0, 2, 0};
@@ -661,7 +699,9 @@ static void set_terms(void) {
         form table = random_form(l, any(6));
         size_t len = random_term(variables, term);
         uint32_t code =
-            sharing_equation(side, table.bytes, table.len, x, term, len, out, sizeof out);
+            variables == 1u << (x - 1)
+                ? sharing_read(table.bytes, table.len, out, sizeof out)
+                : sharing_equation(side, table.bytes, table.len, x, term, len, out, sizeof out);
         HOLDS(code == 0);
         form due = taken();
         len = sharing_set_term(variables, set);
@@ -680,8 +720,10 @@ static void set_terms(void) {
     }
     REFUSED(SHARING_STRAY, sharing_set_equation(0, loose, sizeof loose, 9, 99, out, 0));
     HOLDS(sharing_set_term(UINT32_MAX, set) == sizeof set && sharing_word_at(set, 63) == 32);
-    HOLDS(sharing_set_term(1u << 31, set) == 6 && sharing_word_at(set, 1) == 32);
-    HOLDS(sharing_set_term(0, set) == 2);
+    HOLDS(sharing_set_term(1u << 31 | 1, set) == 10 && sharing_word_at(set, 3) == 32);
+    for (uint32_t x = 1; x <= SHARING_MAX_VARIABLES; x++)
+        HOLDS(sharing_set_term(1u << (x - 1), set) == 2 && sharing_word_at(set, 0) == x);
+    HOLDS(sharing_set_term(0, set) == 2 && sharing_word_at(set, 0) == sharing_head(0, 0));
 }
 
 /* The intersection, against the groups of both; the sides as the comment reads them. */
@@ -721,6 +763,16 @@ static void unknown_goals(void) {
         HOLDS(groups_of(0, &made) == ((groups & ~met) | closed(met)));
         REFUSED(SHARING_NARROW,
                 sharing_unknown_goal(table.bytes, table.len, goal, out, made.len - 1));
+        /* The same as where there is no further variable, with each variable of the goal. */
+        for (uint32_t x = 1; x <= l && l > 1; x++) {
+            if ((goal >> (x - 1) & 1) == 0)
+                continue;
+            HOLDS(sharing_unknown_within(table.bytes, table.len, x, goal, out, sizeof out) == 0);
+            form within = taken();
+            HOLDS(equal(&within, &made));
+            REFUSED(SHARING_NARROW, sharing_unknown_within(table.bytes, table.len, x, goal, out,
+                                                           within.len - 1));
+        }
     }
     for (uint32_t l = 16; l <= 32; l += 16) {
         form next = next_ones(l);
@@ -873,9 +925,11 @@ static void walk_from(const row *s, size_t i, const row *t, size_t j, finds *due
     }
 }
 
-/* The walk step by step, and sharing_unify beside the equations that it finds. */
-static void check_walk(uint32_t side, const form *table, const row *s, const row *t) {
+/* The walk step by step, and sharing_unify beside the equations that it finds. Is one of them, in
+ * terms that do not clash, without a finite solution? Then there are no groups. */
+static uint32_t check_walk(uint32_t side, const form *table, const row *s, const row *t) {
     finds due = {0, 0, {0}, {0}};
+    uint32_t deeper = 0;
     sharing_walk walk = {s->bytes, s->len, t->bytes, t->len};
     sharing_found found = {0, NULL, 0};
     HOLDS(sharing_read(table->bytes, table->len, out, sizeof out) == 0);
@@ -891,6 +945,8 @@ static void check_walk(uint32_t side, const form *table, const row *s, const row
         HOLDS(sharing_equation(side, now.bytes, now.len, found.variable, found.term, found.term_len,
                                out, sizeof out) == 0);
         now = taken();
+        deeper |= sharing_occurs(found.variable, found.term, found.term_len) ==
+                  SHARING_OCCURS_DEEPER;
     }
     for (int again = 0; again < 2; again++)
         HOLDS(sharing_walk_next(&walk, &found) ==
@@ -901,17 +957,17 @@ static void check_walk(uint32_t side, const form *table, const row *s, const row
     HOLDS(sharing_unify(side, table->bytes, table->len, s->bytes, s->len, t->bytes, t->len, out,
                         sizeof out) == 0);
     form made = taken();
-    if (due.clash) {
-        form none = {{table->bytes[0], 0, side != SHARING_POSITIVE}, 4};
-        none.len += side == SHARING_POSITIVE ? 0 : 2 * word_bytes(table->bytes[0]);
+    if (due.clash || deeper) {
+        form none = no_groups(side, table->bytes[0]);
         HOLDS(made.len == none.len && memcmp(made.bytes, none.bytes, none.len) == 0);
     } else
         HOLDS(made.len == now.len && memcmp(made.bytes, now.bytes, now.len) == 0);
+    return !due.clash && deeper;
 }
 
 /* Walks of random terms; lengths of terms, cut and followed by more. */
 static void walks(void) {
-    uint32_t clashes = 0, nothing = 0;
+    uint32_t clashes = 0, nothing = 0, deeper = 0;
     for (int round = 0; round < ROUNDS; round++) {
         uint32_t wide = any(3) == 0, l = wide ? 16 + any(17) : 1 + any(SMALL);
         form table = random_form(l, any(wide ? 4 : 6));
@@ -921,7 +977,7 @@ static void walks(void) {
             t = s;
         else
             push_term(&t, l, 3);
-        check_walk(wide ? 0 : any(2), &table, &s, &t); /* see maps_and_questions */
+        deeper += check_walk(wide ? 0 : any(2), &table, &s, &t); /* see maps_and_questions */
         clashes += (uint32_t)sharing_terms_clash(s.bytes, s.len, t.bytes, t.len);
         nothing += s.len == t.len && memcmp(s.bytes, t.bytes, s.len) == 0;
         for (size_t len = 0; len <= s.len; len++)
@@ -931,7 +987,7 @@ static void walks(void) {
         HOLDS(sharing_term_length(s.bytes, s.len) == whole);
         HOLDS(sharing_term_length(s.bytes, whole + 1) == whole);
     }
-    HOLDS(clashes > ROUNDS / 10 && nothing > ROUNDS / 10);
+    HOLDS(clashes > ROUNDS / 10 && nothing > ROUNDS / 10 && deeper > ROUNDS / 20);
 }
 
 /* Terms that are not whole: each is a block of its own, so that a sanitizer sees a byte too many. */
@@ -988,6 +1044,7 @@ int main(int count, char **words) {
     refused_maps();
     free_variables();
     wide_free_variables();
+    own_terms();
     set_terms();
     intersections();
     unknown_goals();

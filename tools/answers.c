@@ -61,32 +61,32 @@ static void put_absent(FILE *to, const rules *given) {
               : " are in no group at the start: they count as known", to);
 }
 
-/* Says which equation clashed before a point: every answer there rests on that. */
-static void put_clashed(FILE *to, const rules *given) {
-    fprintf(to, "equation %zu clashes, ", given->clash);
-    put_clash(to, given, given->clash - 1);
+/* Says which equation failed before a point: every answer there rests on that. */
+static void put_failed(FILE *to, const rules *given) {
+    fprintf(to, "equation %zu ", given->failed);
+    put_failure(to, given, given->failed - 1);
     fputs(": no bindings go on from it", to);
 }
 
 /* In brackets what an answer at a point rests on, after what is said first of all, or NULL. */
 static void put_notes(const point *at, const char *first) {
     const rules *given = at->given;
-    bool clash = given->clash != 0 && given->clash <= at->after;
+    bool failed = given->failed != 0 && given->failed <= at->after;
     const char *before = " (";
     if (first != NULL) {
         printf("%s%s", before, first);
         before = "; ";
     }
-    if (clash) {
+    if (failed) {
         fputs(before, stdout);
-        put_clashed(stdout, given);
+        put_failed(stdout, given);
         before = "; ";
     }
     if (given->absent != 0) {
         fputs(before, stdout);
         put_absent(stdout, given);
     }
-    if (first != NULL || clash || given->absent != 0)
+    if (first != NULL || failed || given->absent != 0)
         putchar(')');
 }
 
@@ -154,16 +154,20 @@ static void tell_full(const point *before) {
     put_table(stderr, before);
 }
 
-/* Runs the first equations, `after` in number. A full one, or a refusal, is said. */
-bool reach(const rules *given, size_t after, point *out) {
+/* Runs the first equations, `after` in number. */
+static sharing_running run_equations(const rules *given, size_t after) {
     uint8_t table[SHARING_MAX_FORM], equations[MOST_EQUATIONS_FORM];
     size_t table_len = write_table(given, table);
     size_t equations_len = given->compound ? write_term_equations(given, after, equations)
                                            : write_equations(given, after, equations);
-    sharing_running state =
-        given->compound
-            ? sharing_unify_run(SHARING_POSITIVE, table, table_len, equations, equations_len)
-            : sharing_run(SHARING_POSITIVE, table, table_len, equations, equations_len);
+    return given->compound
+               ? sharing_unify_run(SHARING_POSITIVE, table, table_len, equations, equations_len)
+               : sharing_run(SHARING_POSITIVE, table, table_len, equations, equations_len);
+}
+
+/* The point after the first equations, `after` in number. A full one, or a refusal, is said. */
+bool reach(const rules *given, size_t after, point *out) {
+    sharing_running state = run_equations(given, after);
     if (state.code != SHARING_FULL && !accepted(given, state.code))
         return false;
     out->given = given;
@@ -195,7 +199,9 @@ rules *open_rules(const char *path) {
         fputs(" is in no group: it counts as known\n", stderr);
     }
     for (size_t i = given->equations; i-- > 0;)
-        given->clash = clashes(given, i) ? i + 1 : given->clash;
+        given->failed = fails(given, i) ? i + 1 : given->failed;
+    sharing_running all = run_equations(given, given->equations);
+    given->full = all.code == SHARING_FULL ? all.applied + 1 : 0;
     return given;
 }
 

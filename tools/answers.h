@@ -28,9 +28,9 @@ int show(const rules *given);
 int write_form(const rules *given, size_t after, bool packed);
 int write_text(const char *path, bool packed);
 
-bool clashes(const rules *given, size_t i);
-void put_clash(FILE *to, const rules *given, size_t i);
-void tell_clashes(const rules *given, size_t count);
+bool fails(const rules *given, size_t i);
+void put_failure(FILE *to, const rules *given, size_t i);
+void tell_failures(const rules *given, size_t count);
 int explain_file(const rules *given);
 
 void explain_number(FILE *to, uint32_t number);

@@ -52,7 +52,8 @@ typedef struct {
     size_t equations;
     equation equation[SHARING_MAX_EQUATIONS];
     bool compound; /* some equation has a variable on neither side */
-    size_t clash;  /* the number of the first one that clashes, 0 where none does */
+    size_t failed; /* the number of the first one that fails by its terms, 0 where none does */
+    size_t full;   /* that of the one that is full, 0 where none is */
     size_t tokens;
     uint32_t token[MOST_TOKENS];
     size_t symbols; /* those of the tokens by number, from 1 */

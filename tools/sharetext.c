@@ -14,7 +14,7 @@
  *
  * Every answer is the library's. This program reads, writes an entry for each variable that the
  * file calls free and for each _, lists and counts the groups that the library's entries cover, and
- * tells which equations and clashes are found in two terms.
+ * tells which equations and clashes are found in two terms, and which equations can never hold.
  */
 #include "answers.h"
 #include "help.h"
@@ -134,7 +134,7 @@ static int run_on(command c, const rules *given, const arguments *got) {
         return explain_file(given);
     if (c == INPUT && given->compound && !got->unify)
         return not_for_sharerun(given);
-    tell_clashes(given, after);
+    tell_failures(given, after);
     if (c == INPUT)
         return input(given, got->unify);
     if (c == APART)

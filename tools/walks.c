@@ -104,12 +104,30 @@ static void begin_walk(const rules *given, size_t i, two_sides *out) {
     out->walk.right_len = 2 * e->right;
 }
 
-/* Does the walk of an equation clash? */
-bool clashes(const rules *given, size_t i) {
+/* What an equation comes to by its terms alone. It fails by a clash or, without one, where an
+ * equation that is found has its variable deeper in its term. */
+typedef enum { MAY_HOLD, CLASHES, NO_SOLUTION } outcome;
+
+/* The outcome of an equation; the walk stands at the clash, or `found` has no finite solution. */
+static outcome outcome_of(const rules *given, size_t i, two_sides *both, sharing_found *found) {
+    uint32_t met;
+    begin_walk(given, i, both);
+    while ((met = sharing_walk_next(&both->walk, found)) == SHARING_WALK_EQUATION) {
+    }
+    if (met == SHARING_WALK_CLASH)
+        return CLASHES;
+    begin_walk(given, i, both);
+    while (sharing_walk_next(&both->walk, found) == SHARING_WALK_EQUATION)
+        if (sharing_occurs(found->variable, found->term, found->term_len) == SHARING_OCCURS_DEEPER)
+            return NO_SOLUTION;
+    return MAY_HOLD;
+}
+
+/* Does an equation fail by its terms, whatever the bindings are? */
+bool fails(const rules *given, size_t i) {
     two_sides both;
-    begin_walk(given, i, &both);
-    return sharing_terms_clash(both.walk.left, both.walk.left_len, both.walk.right,
-                               both.walk.right_len);
+    sharing_found found;
+    return outcome_of(given, i, &both, &found) != MAY_HOLD;
 }
 
 /* The two heads that a walk stands at, which differ. */
@@ -119,60 +137,98 @@ static void put_heads(FILE *to, const rules *given, const sharing_walk *walk) {
     put_head(to, given, sharing_word_at(walk->right, 0));
 }
 
-/* The heads of an equation that clashes. */
-void put_clash(FILE *to, const rules *given, size_t i) {
+/* The variable of an equation that was found. */
+static void put_left(FILE *to, const rules *given, const sharing_found *found) {
+    put_piece(to, variable_name(given, found->variable - 1));
+}
+
+/* Why an equation fails. */
+void put_failure(FILE *to, const rules *given, size_t i) {
     two_sides both;
     sharing_found found;
-    begin_walk(given, i, &both);
-    while (sharing_walk_next(&both.walk, &found) == SHARING_WALK_EQUATION) {
+    if (outcome_of(given, i, &both, &found) == CLASHES) {
+        fputs("clashes, ", to);
+        put_heads(to, given, &both.walk);
+    } else {
+        fputs("has no finite solution for ", to);
+        put_left(to, given, &found);
     }
-    put_heads(to, given, &both.walk);
 }
 
-/* Says that an equation clashes, at its place in the file. */
-static void tell_clash(const rules *given, size_t i) {
+/* What follows from a failure for the points after it. Where an equation that is found before it is
+ * full, there is no table after it to speak of. */
+static const char *empty_after(const rules *given, size_t i) {
+    return given->full == i + 1 ? "" : " No bindings go on from it: the table is empty after it.";
+}
+
+/* Says that an equation fails, at its place in the file. */
+static void tell_failure(const rules *given, size_t i) {
     const equation *e = &given->equation[i];
+    two_sides both;
+    sharing_found found;
+    outcome came = outcome_of(given, i, &both, &found);
     tell_place(&e->where, e->text);
-    fprintf(stderr, "Equation %zu clashes: ", i + 1);
-    put_clash(stderr, given, i);
+    fprintf(stderr, "Equation %zu ", i + 1);
+    if (came == CLASHES) {
+        fputs("clashes: ", stderr);
+        put_heads(stderr, given, &both.walk);
+    } else {
+        fputs("has no finite solution: ", stderr);
+        put_left(stderr, given, &found);
+        fputs(" stands inside its own term", stderr);
+    }
     fputc('.', stderr);
     show_line(&e->where, e->text);
-    fputs("    No bindings go on from it: the table is empty after it.\n", stderr);
+    fprintf(stderr, "   %s%s\n", came == NO_SOLUTION ? " A clause with it never succeeds." : "",
+            empty_after(given, i));
 }
 
-/* Says which of the first equations, `count` in number, clash. */
-void tell_clashes(const rules *given, size_t count) {
+/* Says which of the first equations, `count` in number, fail. */
+void tell_failures(const rules *given, size_t count) {
     for (size_t i = 0; i < count; i++)
-        if (clashes(given, i))
-            tell_clash(given, i);
+        if (fails(given, i))
+            tell_failure(given, i);
 }
 
 /* ---- Each equation of a file */
 
-/* What the walk of an equation finds, an equation a line, and whether it clashes. */
+/* An equation that was found, and what there is to say where its variable is in its own term: has
+ * it no finite solution? */
+static bool put_found(const rules *given, size_t i, const sharing_found *found) {
+    uint32_t occurs = sharing_occurs(found->variable, found->term, found->term_len);
+    fputs("    ", stdout);
+    put_left(stdout, given, found);
+    fputs(" = ", stdout);
+    put_term(stdout, given, found->term);
+    if (occurs == SHARING_OCCURS_ALONE)
+        fputs(", which says nothing: the table stays as it is", stdout);
+    if (occurs == SHARING_OCCURS_DEEPER)
+        printf(", which no finite term solves: a clause with it never succeeds.%s",
+               empty_after(given, i));
+    putchar('\n');
+    return occurs == SHARING_OCCURS_DEEPER;
+}
+
+/* What the walk of an equation finds, an equation a line, up to one that has no finite solution:
+ * nothing after that is reached. Does the equation fail? */
 static bool put_walk(const rules *given, size_t i) {
     two_sides both;
     sharing_found found;
-    uint32_t met;
-    bool nothing = true;
-    if (clashes(given, i)) {
+    bool nothing = true, failed = false;
+    if (outcome_of(given, i, &both, &found) == CLASHES) {
         fputs("    clash: ", stdout);
-        put_clash(stdout, given, i);
-        puts(". No bindings go on from it: the table is empty after it.");
+        put_heads(stdout, given, &both.walk);
+        printf(".%s\n", empty_after(given, i));
         return true;
     }
     begin_walk(given, i, &both);
-    while ((met = sharing_walk_next(&both.walk, &found)) == SHARING_WALK_EQUATION) {
-        fputs("    ", stdout);
-        put_piece(stdout, variable_name(given, found.variable - 1));
-        fputs(" = ", stdout);
-        put_term(stdout, given, found.term);
-        putchar('\n');
+    while (!failed && sharing_walk_next(&both.walk, &found) == SHARING_WALK_EQUATION) {
+        failed = put_found(given, i, &found);
         nothing = false;
     }
     if (nothing)
         puts("    nothing: the two sides are the same, and the table stays as it is");
-    return false;
+    return failed;
 }
 
 /* One more equation of a running analysis. */

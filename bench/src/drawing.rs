@@ -65,15 +65,20 @@ pub fn group(random: &mut Random, l: u32) -> u32 {
     1 + random.below(low_bits(l) as usize) as u32
 }
 
-/// An equation of l variables. Its term has 1 to 4 of them, as in f(X3, f(X1, g(X3))).
+/// An equation of l variables, more than 4. Its term has 1 to 4 of them, as in f(X3, f(X1, g(X3))).
+/// Where it holds the left one that is drawn, which would leave no groups, the next one that it does
+/// not hold is taken; after Xl comes X1.
 pub fn equation(random: &mut Random, l: u32) -> Equation {
     let mut term = Vec::new();
     for _ in 0..random.below(4) {
         term.extend([head(1, 2), random.variable(l)]);
     }
     term.extend([head(2, 1), random.variable(l)]);
+    let drawn = random.variable(l);
+    let mut others = (drawn..=l as u16).chain(1..drawn);
+    let left = others.find(|variable| !term.contains(variable));
     Equation {
-        left: random.variable(l),
+        left: left.expect("the term does not hold all variables"),
         term,
     }
 }

@@ -164,10 +164,25 @@ fn equations(random: &mut Random) -> Result<Vec<Row>, Refusal> {
         |name: &str, goal, tables: &[Table]| equation(name.into(), goal, Side::Positive, tables);
     let drawn = tables::drawn(L, EQUATIONS, 32)?;
     let mut rows = vec![positive("positive equation, 32 draws", 0.12, &drawn)?];
+    rows.extend(self_equations(&drawn)?);
     rows.extend(negative_equations(random)?);
     let one_entry = tables::one_entry(random);
     rows.push(positive("equation on one entry", 0.60, &one_entry)?);
     Ok(rows)
+}
+
+/// X1 = X1 and X1 = f(X1) on these tables: nothing is joined, so that the time is that of reading a
+/// table and handing it on.
+fn self_equations(tables: &[Table]) -> Result<Vec<Row>, Refusal> {
+    let row = |name: &str, term: &[u16]| {
+        let name = format!("{name}, 32 draws");
+        let row = equation_of_x1(name, 1.00, Side::Positive, tables, term)?;
+        Ok(row.bounded(1.00))
+    };
+    Ok(vec![
+        row("X1 = X1", &[1])?,
+        row("X1 = f(X1)", &[head(1, 1), 1])?,
+    ])
 }
 
 /// One negative equation. The tables that leave a share of the groups are drawn as they stand; the
@@ -207,16 +222,27 @@ fn wider(random: &mut Random) -> Result<Vec<Row>, Refusal> {
 
 /// The equation X1 = f(X2, X3).
 pub fn equation(name: String, goal: f64, side: Side, tables: &[Table]) -> Result<Row, Refusal> {
+    equation_of_x1(name, goal, side, tables, &[head(1, 2), 2, 3])
+}
+
+/// The equation of X1 and a term.
+fn equation_of_x1(
+    name: String,
+    goal: f64,
+    side: Side,
+    tables: &[Table],
+    term: &[u16],
+) -> Result<Row, Refusal> {
     let equation = Equation {
         left: 1,
-        term: vec![head(1, 2), 2, 3],
+        term: term.to_vec(),
     };
     let input = |table| Input::chain(side, table, slice::from_ref(&equation));
     Row::new(name, goal, tables.iter().map(input))
 }
 
 /// Chains of random positive equations of 16 variables. Of 22 draws no equation is full, of 32 draws
-/// 9 of 640 are, of 64 nearly all. From the all-star entry, where nothing is known of the variables,
+/// 13 of 640 are, of 64 nearly all. From the all-star entry, where nothing is known of the variables,
 /// tables stay short.
 fn chains(random: &mut Random, later: &mut Random) -> Result<Vec<Row>, Refusal> {
     let drawn = tables::drawn(WIDE, CHAINS, 22)?;

@@ -62,7 +62,7 @@ fn equations(random: &mut Random) -> Result<Vec<Row>, Refusal> {
 }
 
 /// Chains of random positive equations. From the single groups 1 of 320 equations is full, with 8
-/// groups more 7 are.
+/// groups more 6 are.
 fn chains(random: &mut Random) -> Result<Vec<Row>, Refusal> {
     let l = LONG_CLAUSE;
     let single = tables::single_groups(l, CHAINS)?;

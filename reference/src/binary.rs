@@ -1,9 +1,11 @@
-//! Sets of groups, and the binary definitions on them (01, "Binary definitions"; of two terms 02,
-//! "Both sides compound"). Nothing here uses the growth rule, so it says independently what a table
-//! must stand for. A set has a bit for each of the 2^l strings, so l is small here.
+//! Sets of groups, and the binary definitions on them (01, "Binary definitions"; 02, "Both sides
+//! compound" and "A variable set equal to itself"). Nothing here uses the growth rule, so it says
+//! independently what a table must stand for. A set has a bit for each of the 2^l strings, so l is
+//! small here.
 
 use crate::entry::{cut_word, low_bits, variable_bit};
 use crate::table::{Side, Table};
+use crate::terms::Kind;
 use crate::unification::{walk, Clash, Term};
 
 /// A set of groups of l positions, one bit for each string of 0 and 1.
@@ -113,10 +115,18 @@ pub fn close(set: &GroupSet) -> GroupSet {
     closed
 }
 
-/// Equation x = t: the groups with neither x nor a variable of t, together with the closed cross
-/// of those with x and those with some variable of t.
-pub fn equation(set: &GroupSet, x: u32, variables: u32) -> GroupSet {
-    let x = variable_bit(x);
+/// Equation x = t: the same groups where t is x, none where t holds x deeper; else as below.
+pub fn equation(set: &GroupSet, x: u32, kind: Kind) -> GroupSet {
+    match kind {
+        Kind::Itself => set.clone(),
+        Kind::Deeper => GroupSet::empty(set.l),
+        Kind::Plain(variables) => plain_equation(set, variable_bit(x), variables),
+    }
+}
+
+/// The groups with neither x nor a variable of t, together with the closed cross of those with x
+/// and those with some variable of t.
+fn plain_equation(set: &GroupSet, x: u32, variables: u32) -> GroupSet {
     let joined = close(&cross(&relevant(set, x), &relevant(set, variables)));
     join(&irrelevant(set, x | variables), &joined)
 }
@@ -127,7 +137,8 @@ pub fn unify(set: &GroupSet, left: &Term, right: &Term) -> GroupSet {
     match walk(left, right) {
         Err(Clash) => GroupSet::empty(set.l),
         Ok(found) => found.iter().fold(set.clone(), |set, (x, term)| {
-            equation(&set, u32::from(*x), term.variables())
+            let x = u32::from(*x);
+            equation(&set, x, term.kind(x))
         }),
     }
 }

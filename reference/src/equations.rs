@@ -1,11 +1,13 @@
 //! Relevant, irrelevant, cross, close and the equation of both sides (01, "The growth rule and
-//! what stands on it"). Sets of variables are words; x is a variable number.
+//! what stands on it"; 02, "A variable set equal to itself"). Sets of variables are words; x is a
+//! variable number.
 
 use crate::entry::{rising_bits, variable_bit, Entry};
 use crate::growth::{grow, grow_all, grown};
 use crate::refusal::Refusal;
 use crate::sides::{change_side, meets};
-use crate::table::Side;
+use crate::table::{Side, Table};
+use crate::terms::Kind;
 
 /// Relevant: for each entry, for each named variable rising, grow its meet with the string
 /// having 1 there, if they match.
@@ -50,22 +52,25 @@ pub fn close(l: u32, entries: &[Entry]) -> Result<Vec<Entry>, Refusal> {
     Ok(closed)
 }
 
-/// Equation x = t on either side; `variables` is the set of variables of t.
+/// Equation x = t on either side. Where t is x the entries are as given, and where it holds x deeper
+/// there are no groups: neither grows a list, so neither is full.
 pub fn equation(
     side: Side,
     l: u32,
     entries: &[Entry],
     x: u32,
-    variables: u32,
+    kind: Kind,
 ) -> Result<Vec<Entry>, Refusal> {
-    match side {
-        Side::Positive => positive_equation(l, entries, x, variables),
-        Side::Negative => negative_equation(l, entries, x, variables),
+    match (kind, side) {
+        (Kind::Itself, _) => Ok(entries.to_vec()),
+        (Kind::Deeper, _) => Ok(Table::without_groups(side, l).entries),
+        (Kind::Plain(variables), Side::Positive) => positive_equation(l, entries, x, variables),
+        (Kind::Plain(variables), Side::Negative) => negative_equation(l, entries, x, variables),
     }
 }
 
 /// Equation, positive: grow the irrelevant entries, then those of the closed cross of the
-/// entries relevant to x and to t.
+/// entries relevant to x and to t, which does not hold x.
 pub fn positive_equation(
     l: u32,
     entries: &[Entry],
@@ -79,8 +84,8 @@ pub fn positive_equation(
     grown(l, &irrelevant(l, entries, x | variables)?, joined)
 }
 
-/// Equation, negative: P and Q stand for the groups with x and with some variable of t, C for
-/// those with neither, K for the closed cross; the result is the meets of C and K.
+/// Equation, negative, of such a t: P and Q stand for the groups with x and with some variable of t,
+/// C for those with neither, K for the closed cross; the result is the meets of C and K.
 pub fn negative_equation(
     l: u32,
     entries: &[Entry],

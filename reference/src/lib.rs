@@ -31,4 +31,4 @@ pub use refusal::Refusal;
 pub use report::{report, Report};
 pub use running::Running;
 pub use table::{Side, Table, ENTRIES, VARIABLES};
-pub use terms::{Equation, TwoTerms};
+pub use terms::{Equation, Kind, TwoTerms};

@@ -7,7 +7,7 @@ use crate::growth;
 use crate::refusal::Refusal;
 use crate::sides;
 use crate::table::{check_width, Side, Table};
-use crate::terms::{check_single_equation, check_single_terms, variables};
+use crate::terms::{check_single_equation, check_single_terms, kind};
 use crate::unification;
 
 /// Convert groups to a positive table: 2, 4 over all words, 8.
@@ -32,10 +32,10 @@ pub fn change_side(table: &Table) -> Result<Table, Refusal> {
 pub fn equation(side: Side, table: &Table, variable: u32, term: &[u16]) -> Result<Table, Refusal> {
     table.check()?;
     check_single_equation(table.l, variable, term)?;
-    let entries = equations::equation(side, table.l, &table.entries, variable, variables(term))?;
+    let kind = kind(variable, term);
     Ok(Table {
         l: table.l,
-        entries,
+        entries: equations::equation(side, table.l, &table.entries, variable, kind)?,
     })
 }
 

@@ -7,7 +7,7 @@ use crate::forms::{read_equations, read_table, read_tokens, read_two_terms, read
 use crate::operations;
 use crate::refusal::{number_of, Refusal};
 use crate::table::{Side, Table};
-use crate::terms::{variables, Equation, TwoTerms};
+use crate::terms::{kind, Equation, TwoTerms};
 use crate::{equations, unification};
 
 /// The state of a running analysis.
@@ -47,8 +47,9 @@ impl Running {
 
     /// One checked equation of a run; a full one leaves the table and the count, and its number.
     pub fn apply(&mut self, equation: &Equation) -> Result<(), Refusal> {
-        let (x, set) = (u32::from(equation.left), variables(&equation.term));
-        self.apply_rule(|side, l, entries| equations::equation(side, l, entries, x, set))
+        let x = u32::from(equation.left);
+        let kind = kind(x, &equation.term);
+        self.apply_rule(|side, l, entries| equations::equation(side, l, entries, x, kind))
     }
 
     /// The same of two checked terms.

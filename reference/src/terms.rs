@@ -1,5 +1,5 @@
-//! Terms as rows of 16-bit tokens, and the checks of one equation (01, "Terms"; 02, "Both sides
-//! compound").
+//! Terms as rows of 16-bit tokens, the checks of one equation and its kind (01, "Terms"; 02, "Both
+//! sides compound" and "A variable set equal to itself").
 
 use crate::entry::variable_bit;
 use crate::refusal::Refusal;
@@ -102,4 +102,25 @@ pub fn variables(term: &[u16]) -> u32 {
     term.iter()
         .filter(|&&token| !is_head(token))
         .fold(0, |set, &token| set | variable_bit(u32::from(token)))
+}
+
+/// The kinds of an equation x = t, by where x stands in t.
+#[derive(Clone, Copy, Debug, PartialEq, Eq, Hash)]
+pub enum Kind {
+    /// t is exactly x: nothing changes.
+    Itself,
+    /// t holds x deeper: no finite terms make the two sides the same.
+    Deeper,
+    /// t does not hold x. This is the set of its variables.
+    Plain(u32),
+}
+
+/// The kind of the equation of a variable and a checked term.
+pub fn kind(x: u32, term: &[u16]) -> Kind {
+    let variables = variables(term);
+    match term {
+        [token] if u32::from(*token) == x => Kind::Itself,
+        _ if variables & variable_bit(x) != 0 => Kind::Deeper,
+        _ => Kind::Plain(variables),
+    }
 }

@@ -1,11 +1,11 @@
 //! Two terms set equal (02, "Both sides compound"): both are read as trees and walked together, and
-//! what the walk finds is applied with the equation's rule of 01.
+//! what the walk finds is applied with the equation's rule.
 
 use crate::entry::{variable_bit, Entry};
 use crate::equations::equation;
 use crate::refusal::Refusal;
 use crate::table::{Side, Table};
-use crate::terms::{arity, is_head};
+use crate::terms::{arity, is_head, Kind};
 
 /// A term as a tree.
 #[derive(Clone, Debug, PartialEq, Eq)]
@@ -60,6 +60,16 @@ impl Term {
                 .fold(0, |set, argument| set | argument.variables()),
         }
     }
+
+    /// The kind of the equation of a variable and the term.
+    pub fn kind(&self, x: u32) -> Kind {
+        let variables = self.variables();
+        match self {
+            Term::Variable(y) if u32::from(*y) == x => Kind::Itself,
+            _ if variables & variable_bit(x) != 0 => Kind::Deeper,
+            _ => Kind::Plain(variables),
+        }
+    }
 }
 
 /// The walk of two terms, arguments left to right: the equations that it finds, in order.
@@ -100,7 +110,8 @@ pub fn unify(
         Ok(found) => found
             .iter()
             .try_fold(entries.to_vec(), |entries, (x, term)| {
-                equation(side, l, &entries, u32::from(*x), term.variables())
+                let x = u32::from(*x);
+                equation(side, l, &entries, x, term.kind(x))
             }),
     }
 }

@@ -2,9 +2,9 @@
 
 mod common;
 
-use common::{some_table, some_term, table, SIDES};
+use common::{some_equation, some_table, table, SIDES};
 use reference::forms::{bytes_of, read_table};
-use reference::{byte_calls, operations, questions, Refusal, Table};
+use reference::{byte_calls, operations, questions, Equation, Refusal, Table};
 use support::tables::{form, packed};
 use support::Random;
 
@@ -14,7 +14,8 @@ fn byte_calls_agree_with_value_calls() {
     for seed in 0..2000 {
         let mut random = Random::new(seed + 77);
         let l = random.within(1, 6) as u32;
-        let (x, term) = (u32::from(random.variable(l)), some_term(&mut random, l));
+        let Equation { left, term } = some_equation(&mut random, l);
+        let x = u32::from(left);
         let keep = random.set(l).max(1);
         let given = some_table(&mut random, l, 12);
         let [a, b] = [form(&given), form(&some_table(&mut random, l, 12))];

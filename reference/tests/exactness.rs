@@ -2,15 +2,17 @@
 
 mod common;
 
-use common::{some_table, some_term, SIDES};
+use common::{some_equation, some_table, SIDES};
 use reference::entry::variable_bit;
 use reference::forms::read_table;
-use reference::terms::variables;
+use reference::terms::kind;
 use reference::{
-    binary, equations, groups, growth, operations, questions, sides, Entry, GroupSet, Side, Table,
+    binary, equations, groups, growth, operations, questions, sides, Entry, Equation, GroupSet,
+    Side, Table,
 };
+use std::cell::RefCell;
 use support::tables::form;
-use support::Random;
+use support::{Kinds, Random};
 
 /// The number of cases of each test.
 const CASES: u64 = 4000;
@@ -32,12 +34,15 @@ fn covered(l: u32, entries: Vec<Entry>) -> GroupSet {
 
 #[test]
 fn equation_is_exact() {
+    let kinds = RefCell::new(Kinds::default());
     for_cases(1, |random, l, table| {
-        let x = u32::from(random.variable(l));
-        let term = some_term(random, l);
+        let Equation { left, term } = some_equation(random, l);
+        let x = u32::from(left);
+        let kind = kind(x, &term);
+        kinds.borrow_mut().enter(kind);
         for side in SIDES {
             let result = operations::equation(side, table, x, &term).expect("accepted");
-            let expected = binary::equation(&groups(table, side), x, variables(&term));
+            let expected = binary::equation(&groups(table, side), x, kind);
             assert_eq!(
                 groups(&result, side),
                 expected,
@@ -45,6 +50,7 @@ fn equation_is_exact() {
             );
         }
     });
+    assert_eq!(kinds.borrow().complaints(), Vec::<String>::new());
 }
 
 #[test]
@@ -213,7 +219,8 @@ fn questions_of_more_variables_answer_by_groups() {
 #[test]
 fn results_read_back() {
     for_cases(10, |random, l, table| {
-        let (x, term) = (u32::from(random.variable(l)), some_term(random, l));
+        let Equation { left, term } = some_equation(random, l);
+        let x = u32::from(left);
         let (second, keep) = (some_table(random, l, 12), random.set(l) | 1);
         let given = read_table(&form(table)).expect("reads");
         assert_eq!(read_table(&form(&given)), Ok(given.clone()));

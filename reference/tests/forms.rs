@@ -2,7 +2,7 @@
 
 mod common;
 
-use common::{equations_form, some_term, table, text};
+use common::{equations_form, some_equation, table, text};
 use reference::forms::{bytes_of, read_equations, read_front, read_table, read_tokens};
 use reference::forms::{write_equations, write_table};
 use reference::terms::head;
@@ -185,12 +185,7 @@ fn written_equations_read_back() {
         let mut random = Random::new(seed + 5);
         let l = random.width();
         let count = random.below(10);
-        let equations: Vec<Equation> = (0..count)
-            .map(|_| Equation {
-                left: random.variable(l),
-                term: some_term(&mut random, l),
-            })
-            .collect();
+        let equations: Vec<Equation> = (0..count).map(|_| some_equation(&mut random, l)).collect();
         let expected = equations_form(&equations);
         let mut out = vec![0; 4096];
         let length = write_equations(&equations, &mut out).expect("within the limits");

@@ -6,7 +6,7 @@ use common::{even_strings, pairs_table, JOINED, SIDES};
 use reference::entry::low_bits;
 use reference::growth::{convert, grow, widen};
 use reference::terms::head;
-use reference::{equations, operations, sides, Entry, Refusal, Side, Table};
+use reference::{equations, operations, sides, Entry, Kind, Refusal, Side, Table};
 
 /// A table of so many strings of 10 positions, none within one flip of another.
 fn even_table(count: usize) -> Table {
@@ -126,7 +126,7 @@ fn inner_rules_take_32_positions() {
         Entry::ones_at(high).flip(high)
     );
     for side in SIDES {
-        let result = equations::equation(side, 32, &all, 32, low);
+        let result = equations::equation(side, 32, &all, 32, Kind::Plain(low));
         assert!(result.is_ok());
         assert!(sides::projection(side, 32, &all, high | low).is_ok());
     }

@@ -2,7 +2,7 @@
 
 mod common;
 
-use common::{equations_form, pairs_table, some_table, some_term, table, JOINED, SIDES};
+use common::{equations_form, pairs_table, some_equation, some_table, table, JOINED, SIDES};
 use reference::byte_calls::{run, start, step, write};
 use reference::forms::{bytes_of, read_table};
 use reference::terms::head;
@@ -149,10 +149,7 @@ fn run_and_running_analysis_agree() {
         let l = random.within(1, 5) as u32;
         let bytes = form(&some_table(&mut random, l, 8));
         let equations: Vec<Equation> = (0..random.below(5))
-            .map(|_| Equation {
-                left: random.variable(l),
-                term: some_term(&mut random, l),
-            })
+            .map(|_| some_equation(&mut random, l))
             .collect();
         for side in SIDES {
             let mut state = start(side.number(), &bytes);

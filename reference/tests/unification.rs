@@ -6,11 +6,11 @@ use common::{pairs_table, some_table, table, text, JOINED, SIDES};
 use reference::byte_calls::{run, start, step, unify, unify_run, unify_step};
 use reference::forms::{bytes_of, read_table, read_two_terms, table_length, write_two_terms};
 use reference::operations;
-use reference::terms::{head, TOKENS};
+use reference::terms::{head, kind, variables, TOKENS};
 use reference::unification::{walk, Clash, Term};
-use reference::{binary, groups, Refusal, Side, Table, TwoTerms};
+use reference::{binary, groups, Equation, Refusal, Side, Table, TwoTerms};
 use support::tables::{form, form_entries, LONGEST};
-use support::{Equations, Random, TermEquations};
+use support::{Equations, Kinds, Random, TermEquations};
 
 /// Heads, by symbol and arity.
 const A: u16 = 0x8010;
@@ -106,7 +106,10 @@ fn trees_have_their_tokens() {
         for tokens in [left, right] {
             let term = Term::of(&tokens);
             assert_eq!(term.tokens(), tokens);
-            assert_eq!(term.variables(), reference::terms::variables(&tokens));
+            assert_eq!(term.variables(), variables(&tokens));
+            for x in 1..=4 {
+                assert_eq!(term.kind(x), kind(x, &tokens));
+            }
         }
     }
 }
@@ -114,14 +117,19 @@ fn trees_have_their_tokens() {
 /// The groups are those that the binary definitions give, on both sides.
 #[test]
 fn unification_is_exact() {
-    let mut clashes = 0;
+    let (mut clashes, mut kinds) = (0, Kinds::default());
     for seed in 0..4000 {
         let mut random = Random::new(seed + 41);
         let l = random.within(1, 6) as u32;
         let given = some_table(&mut random, l, 12);
         let TwoTerms { left, right } = some_terms(&mut random, l, 12);
         let terms = (Term::of(&left), Term::of(&right));
-        clashes += u32::from(walk(&terms.0, &terms.1).is_err());
+        match walk(&terms.0, &terms.1) {
+            Err(Clash) => clashes += 1,
+            Ok(found) => found
+                .iter()
+                .for_each(|(x, term)| kinds.enter(term.kind(u32::from(*x)))),
+        }
         for side in SIDES {
             let result = operations::unify(side, &given, &left, &right).expect("accepted");
             let expected = binary::unify(&groups(&given, side), &terms.0, &terms.1);
@@ -133,6 +141,7 @@ fn unification_is_exact() {
         }
     }
     assert!((400..2000).contains(&clashes), "{clashes} of 4000 clash");
+    assert_eq!(kinds.complaints(), Vec::<String>::new());
 }
 
 /// The entries are those of the found equations, applied one after another.
@@ -163,7 +172,7 @@ fn one_variable_is_the_equation() {
         let mut random = Random::new(seed + 47);
         let l = random.within(1, 6) as u32;
         let given = some_table(&mut random, l, 12);
-        let (x, term) = (random.variable(l), random.term_of(l, 7));
+        let Equation { left: x, term } = random.equation_of(l, 7);
         for side in SIDES {
             let equation = operations::equation(side, &given, u32::from(x), &term);
             assert_eq!(operations::unify(side, &given, &[x], &term), equation);
@@ -384,9 +393,9 @@ fn old_and_new_form_agree() {
         let given = form(&some_table(&mut random, l, 8));
         let (mut old, mut new) = (Equations::default(), TermEquations::default());
         for _ in 0..random.below(5) {
-            let (x, term) = (random.variable(l), common::some_term(&mut random, l));
-            old.push(x, &term);
-            new.push(&[x], &term);
+            let Equation { left, term } = common::some_equation(&mut random, l);
+            old.push(left, &term);
+            new.push(&[left], &term);
         }
         for side in SIDES.map(Side::number) {
             let state = run(side, &given, &old.bytes());

@@ -3,14 +3,14 @@
 
 mod common;
 
-use common::{some_table, some_term, table, SIDES};
+use common::{some_equation, some_table, table, SIDES};
 use reference::entry::{low_bits, rising_bits};
 use reference::forms::{
     add_words, bytes_of, form_of, read_front, read_table, table_length, word_length,
 };
 use reference::packed::read_packed;
 use reference::terms::{head, is_head};
-use reference::{byte_calls, operations, questions, report, Entry, Refusal, Side, Table};
+use reference::{byte_calls, operations, questions, report, Entry, Equation, Refusal, Side, Table};
 use support::tables::{form, packed, EDGES, LONGEST};
 use support::{Equations, Random};
 
@@ -251,7 +251,7 @@ fn few_of_32_variables() {
         let few = Few::draw(&mut random);
         let l = few.count();
         let [first, second] = [(); 2].map(|()| some_table(&mut random, l, 12));
-        let (x, term) = (random.variable(l), some_term(&mut random, l));
+        let Equation { left: x, term } = some_equation(&mut random, l);
         let keep = random.set(l).max(1);
         let wide = [&first, &second].map(|given| few.table(given));
         let (wide_x, wide_term) = (few.variable(x), few.term(&term));

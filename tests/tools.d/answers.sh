@@ -218,12 +218,15 @@ wrong_goals() {
 # The entries of X1 to X16 where each may share with the next one.
 next_ones() { for i in {1..15}; do echo "$(times $((i - 1)) 0)11$(times $((15 - i)) 0)"; done; }
 
-# X1 = X1 leaves that so; X1 with X1 to X15 needs more than 256 entries.
-full_file() { printf 'vars 16\n%s\nX1 = X1\n\n X1 = f(%s). %% full\nX1 = a\n' "$(next_ones)" "$(lines 15 'X&' | paste -sd,)"; }
+# The variables X2 to X16, with $1 between two.
+other_ones() { seq -f 'X%g' -s "$1" 2 16; }
+
+# X1 = X1 leaves that so, in the same order; X1 with X2 to X16 needs more than 256 entries.
+full_file() { printf 'vars 16\n%s\nX1 = X1\n\n X1 = f(%s). %% full\nX1 = a\n' "$(next_ones)" "$(other_ones ,)"; }
 
 full() {
     local equation said
-    equation="X1 = f($(lines 15 'X&' | paste -sd,))"
+    equation="X1 = f($(other_ones ,))"
     full_file >"$file"
     said="$file:19:2: Equation 2 is full: it needs a table of more than 256 entries.
      $equation. % full
@@ -231,7 +234,7 @@ full() {
     No answer can be given for a point after it. What is safe to go on with there is
     the all-star table, where every variable may share with every other: $(times 16 '*')
     Before it answers are given (--after 1), from what was known after equation 1, X1 = X1:
-$(for i in {2..15} 1; do echo "    $(times $((i - 1)) 0)11$(times $((15 - i)) 0)  X$i, X$((i + 1))"; done)"
+$(for i in {1..15}; do echo "    $(times $((i - 1)) 0)11$(times $((15 - i)) 0)  X$i, X$((i + 1))"; done)"
     asked 2 "" "$said" apart "$file" X1 X2
     asked 2 "" "$said" apart "$file" X1 X2 --after 2
     asked 2 "" "$said" apart "$file" - - --after 3

@@ -483,33 +483,49 @@ static uint32_t variables_at(size_t at) {
     return set;
 }
 
-/* What clashes in an equation: the two heads; none where it does not clash. */
-typedef struct { unsigned left, right; } clash;
+/* Why an equation fails: by two heads that clash or, without a clash, by the first variable that is
+ * set equal to a term that has it deeper; 0 where there is none. */
+typedef struct { unsigned left, right, variable; } failure;
 
-/* The first clash in the terms at two places; without one the groups are those after both are equal. */
-static clash unify(size_t left, size_t right, groups *now) {
-    unsigned s = file.token[left], t = file.token[right];
-    clash here = {s, t}, none = {0, 0};
-    if (s < 0x8000 || t < 0x8000) {
-        *now = s < 0x8000 ? after_one(*now, 1u << (s - 1), variables_at(right))
-                          : after_one(*now, 1u << (t - 1), variables_at(left));
-        return none;
+/* The groups after a variable is set equal to the term at a place. One set equal to itself changes
+ * nothing, and a term that has it deeper leaves no group. */
+static void set_equal(unsigned variable, size_t term, groups *now, failure *found) {
+    uint32_t left = 1u << (variable - 1), right = variables_at(term);
+    if (file.token[term] == variable)
+        return;
+    if ((left & right) == 0) {
+        *now = after_one(*now, left, right);
+        return;
     }
-    if (s != t)
-        return here;
-    left++, right++;
-    for (unsigned i = 0; i < s % 16; i++, left = pass(left), right = pass(right)) {
-        clash inside = unify(left, right, now);
-        if (inside.left != 0)
-            return inside;
-    }
-    return none;
+    now->count = 0;
+    if (found->variable == 0)
+        found->variable = variable;
 }
 
-/* The groups after an equation, and its clash. */
-static groups after_equation(groups before, const equation *e, clash *found) {
+/* The groups after the terms at two places are set equal, up to the first clash. */
+static void unify(size_t left, size_t right, groups *now, failure *found) {
+    unsigned s = file.token[left], t = file.token[right];
+    if (s < 0x8000)
+        set_equal(s, right, now, found);
+    else if (t < 0x8000)
+        set_equal(t, left, now, found);
+    else if (s != t) {
+        found->left = s;
+        found->right = t;
+    } else {
+        left++, right++;
+        for (unsigned i = 0; found->left == 0 && i < s % 16; i++) {
+            unify(left, right, now, found);
+            left = pass(left), right = pass(right);
+        }
+    }
+}
+
+/* The groups after an equation, and why it fails. */
+static groups after_equation(groups before, const equation *e, failure *found) {
     groups none = {0, {0}};
-    *found = unify(e->first, e->first + e->left, &before);
+    memset(found, 0, sizeof *found);
+    unify(e->first, e->first + e->left, &before, found);
     return found->left != 0 ? none : before;
 }
 
@@ -556,17 +572,22 @@ static void write_head(FILE *to, unsigned head) {
         fprintf(to, "/%u", head % 16);
 }
 
-/* In brackets what an answer rests on: the first clash, with its number, and what is in no group. */
-static void write_notes(FILE *to, bool no, clash first, unsigned number, const groups *start) {
+/* In brackets what an answer rests on: the first equation that fails, by its number, and what is in
+ * no group. */
+static void write_notes(FILE *to, bool no, failure first, unsigned number, const groups *start) {
     const char *before = " (";
     if (no)
         fputs(" (they may share a variable", to);
     before = no ? "; " : before;
     if (number > 0) {
-        fprintf(to, "%sequation %u clashes, ", before, number);
-        write_head(to, first.left);
-        fputs(" against ", to);
-        write_head(to, first.right);
+        fprintf(to, "%sequation %u ", before, number);
+        if (first.left != 0) {
+            fputs("clashes, ", to);
+            write_head(to, first.left);
+            fputs(" against ", to);
+            write_head(to, first.right);
+        } else
+            fprintf(to, "has no finite solution for %s", file.name[first.variable - 1]);
         fputs(": no bindings go on from it", to);
         before = "; ";
     }
@@ -576,8 +597,9 @@ static void write_notes(FILE *to, bool no, clash first, unsigned number, const g
     fputs(no || number > 0 || has_absent(start) ? ")" : "", to);
 }
 
-/* A point of the file: how many equations are before it, its groups, and the first clash before it. */
-typedef struct { unsigned after, number; clash first; groups now; } point;
+/* A point of the file: how many equations are before it, its groups, and the first failure before
+ * it. */
+typedef struct { unsigned after, number; failure first; groups now; } point;
 
 static void write_pair(FILE *to, const point *at, const groups *start, const unsigned pair[2]) {
     bool no = meets(&at->now, 1u << pair[0], 1u << pair[1]);
@@ -639,9 +661,9 @@ static void write_show(FILE *to, const point *at, const groups *start) {
 
 /* Goes on behind the next equation. */
 static void step(point *at) {
-    clash found;
+    failure found;
     at->now = after_equation(at->now, &file.equation[at->after++], &found);
-    if (found.left != 0 && at->number == 0) {
+    if ((found.left != 0 || found.variable != 0) && at->number == 0) {
         at->number = at->after;
         at->first = found;
     }
@@ -650,7 +672,7 @@ static void step(point *at) {
 /* What `pairs` and `show` print at each point. */
 static void write_points(const char *folder, unsigned number) {
     groups start = start_groups();
-    point at = {0, 0, {0, 0}, start};
+    point at = {0, 0, {0, 0, 0}, start};
     FILE *shown = open_result(folder, number, "show");
     for (unsigned after = 0; after <= file.equations; after++) {
         char kind[20];

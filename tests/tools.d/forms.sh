@@ -156,7 +156,7 @@ form_is() {
 # A form's file has the same form, plain and packed; the other commands take it.
 there_and_back() {
     local form=$scratch/form packed=$scratch/packed text=$scratch/text
-    for name in examples/parish.txt examples/marriage.txt tests/tools.d/cases/*/register.txt; do
+    for name in examples/parish.txt examples/marriage.txt examples/godparents.txt tests/tools.d/cases/*/register.txt; do
         "$program" form "$name" >"$form" 2>"$scratch/ignored"
         "$program" form "$name" --packed >"$packed" 2>"$scratch/ignored"
         "$program" text "$form" >"$text"

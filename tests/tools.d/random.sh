@@ -14,7 +14,7 @@ reports() {
 # File $1 of the folder gives its words, after each equation the answers of the plain sets of groups, and the form of its last
 # table. Where an equation has a variable on neither side, its words are those of `input --unify`.
 good_file() {
-    local point
+    local point clash endless
     file=$folder/$1.txt
     run input "$file"
     if [[ -e $folder/$1.words ]]; then
@@ -23,13 +23,16 @@ good_file() {
         unread "input $file"
         run input "$file" --unify
         same "words of $file" "0 " "$status $(cmp "$folder/$1.unify" "$out" 2>&1)"
-        run explain "$file"
-        same "equations of $file that are explained" "$(grep -c '^Groups after' "$folder/$1.show")" "$(grep -c '^Equation' "$out")"
-        same "status of explain of $file" $((status)) $(($(grep -c ' clash: ' "$out") > 0))
-        same "clashes of $file" "$(grep -c ' clash: ' "$out" || true)" "$("$program" form "$file" 2>&1 >/dev/null | grep -c ' clashes: ' || true)"
         terms=$((terms + 1))
-        clashing=$((clashing + status))
     fi
+    run explain "$file"
+    same "equations of $file that are explained" "$(grep -c '^Groups after' "$folder/$1.show" || true)" "$(grep -c '^Equation' "$out" || true)"
+    clash=$(grep -c '^    clash: ' "$out" || true) endless=$(grep -c ', which no finite term solves: ' "$out" || true)
+    same "status of explain of $file" "$status" $((clash + endless > 0))
+    same "clashes, and equations without a finite solution, of $file" "$clash $endless" \
+        "$("$program" form "$file" 2>&1 >/dev/null | awk '/ Equation [0-9]+ clashes: / { c++ } / has no finite solution: / { e++ } END { print c + 0, e + 0 }')"
+    clashing=$((clashing + (clash > 0))) unsolved=$((unsolved + (endless > 0)))
+    idle=$((idle + $(grep -c ', which says nothing: the table stays as it is$' "$out" || true)))
     for point in "$folder/$1".after.*; do
         run pairs "$file" --after "${point##*.}"
         same "answers of $file after ${point##*.}" "0 " "$status $(cmp "$point" "$out" 2>&1)"
@@ -115,7 +118,7 @@ bad_file() {
 }
 
 random_files() {
-    local folder=$scratch/random i answers=0 refusing=0 terms=0 clashing=0 many=0 taken=0 told=0
+    local folder=$scratch/random i answers=0 refusing=0 terms=0 clashing=0 unsolved=0 idle=0 many=0 taken=0 told=0
     mkdir -p "$folder"
     gcc "${strict[@]}" "${sanitize[@]}" tests/tools.d/files.c -o "$built/files"
     "$built/files" "$folder" 80 "$1"
@@ -125,9 +128,9 @@ random_files() {
     done
     file=$scratch/file
     # Files of each kind were among them.
-    same "random answers, with some no, files of two terms, with some clashes, files of more than 16 variables, and changed files taken and told: \
-$answers $refusing $terms $clashing $many $taken $told" 1 \
-        $((answers > 160 && refusing > 40 && terms > 14 && clashing > 4 && many > 14 && taken > 10 && told > 40))
+    same "random answers, with some no, files of two terms, with clashes, with equations that never hold, equations that say nothing, \
+files of more than 16 variables, and changed files taken and told: $answers $refusing $terms $clashing $unsolved $idle $many $taken $told" 1 \
+        $((answers > 160 && refusing > 40 && terms > 14 && clashing > 4 && unsolved > 4 && idle > 4 && many > 14 && taken > 10 && told > 40))
 }
 
 # Bytes of any kind: the program must end by itself, with no report of a sanitizer, and say something.

@@ -166,7 +166,7 @@ clash_heads() {
 # ---- What is found in each equation
 
 explained_files() {
-    printf "vars A B C D\nfree\n\nf(A, g(B)) = f(C, D).\n  h(D) = A %% b\n'X y'([A, b | C], 2.5) = 'X y'(D, B)\nf(a, [ ]) = f(a, [])\nA=[A,'.'|_]\n" >"$file"
+    printf "vars A B C D\nfree\n\nf(A, g(B)) = f(C, D).\n  h(D) = A %% b\n'X y'([A, b | C], 2.5) = 'X y'(D, B)\nf(a, [ ]) = f(a, [])\nA=[B,'.'|_]\n" >"$file"
     asked 0 "Equation 1 in line 4, f(A, g(B)) = f(C, D):
     A = C
     D = g(B)
@@ -177,12 +177,12 @@ Equation 3 in line 6, 'X y'([A, b | C], 2.5) = 'X y'(D, B):
     B = 2.5
 Equation 4 in line 7, f(a, [ ]) = f(a, []):
     nothing: the two sides are the same, and the table stays as it is
-Equation 5 in line 8, A=[A,'.'|_]:
-    A = [A, '.' | _]" "" explain "$file"
+Equation 5 in line 8, A=[B,'.'|_]:
+    A = [B, '.' | _]" "" explain "$file"
     asked 0 "$(<"$out")" "" explain -
-    printf "vars A B\nfree\nf(g([[A], B]), 'it''s'('\\\\\\\\', -1)) = f(A, B)\n'.'(A, B, B) = '.'(B, [], '[]'(a))\n'[]'(b) = A\n'.' = A\n" >"$file"
-    asked 0 "Equation 1 in line 3, f(g([[A], B]), 'it''s'('\\\\', -1)) = f(A, B):
-    A = g([[A], B])
+    printf "vars A B C\nfree\nf(g([[C], B]), 'it''s'('\\\\\\\\', -1)) = f(A, B)\n'.'(A, B, B) = '.'(B, [], '[]'(a))\n'[]'(b) = A\n'.' = A\n" >"$file"
+    asked 0 "Equation 1 in line 3, f(g([[C], B]), 'it''s'('\\\\', -1)) = f(A, B):
+    A = g([[C], B])
     B = 'it''s'('\\\\', -1)
 Equation 2 in line 4, '.'(A, B, B) = '.'(B, [], '[]'(a)):
     A = B
@@ -206,16 +206,97 @@ Equation 2 in line 4, A = B:
     ended "explain of a wrong file" 2 "" "$(mistake "$file" 2 11 2 "X3 is not one of the variables of line 1." "X1 or X2 $symbols")"
 }
 
+# ---- Variables in their own terms
+
+# What is said of equation $1, the text $3 at $2 (line:column), without a finite solution for $4; $5 is what follows for the table.
+endless_at() {
+    clash_at "$1" "$2" "$3" "" | sed "1s/clashes: .*/has no finite solution: $4 stands inside its own term./
+4s/.*/    A clause with it never succeeds.$5/"
+}
+empty_after=" No bindings go on from it: the table is empty after it."
+solves=", which no finite term solves: a clause with it never succeeds."
+
+# X = X leaves the table, entries and order too, and X = f(X) leaves nothing, also where they are found in two terms.
+own_terms() {
+    local stays=", which says nothing: the table stays as it is" said note at
+    printf 'vars A B C\n110\n101\nA = A\nf(B, g(C), A) = f(B, g(C), A)\n' >"$file"
+    asked 0 "Equation 1 in line 4, A = A:
+    A = A$stays
+Equation 2 in line 5, f(B, g(C), A) = f(B, g(C), A):
+    B = B$stays
+    C = C$stays
+    A = A$stays" "" explain "$file"
+    asked 0 "$(for at in "before the first equation" "after equation 1, A = A" "after equation 2, f(B, g(C), A) = f(B, g(C), A)"; do
+        echo "Table $at:
+    110  A, B
+    101  A, C"
+    done)" "" tables "$file"
+    asked 0 "B and C: $yes after equation 2, f(B, g(C), A) = f(B, g(C), A)" "" apart "$file" B C
+    # The equations before it are told, and nothing after it in its own equation.
+    printf 'vars A B C\nfree\nf(A, B, C) = f(B, g(B), a)\n h(C, [C]) = C. %% no\nB = C\n' >"$file"
+    asked 1 "Equation 1 in line 3, f(A, B, C) = f(B, g(B), a):
+    A = B
+    B = g(B)$solves$empty_after
+Equation 2 in line 4, h(C, [C]) = C:
+    C = h(C, [C])$solves$empty_after
+Equation 3 in line 5, B = C:
+    B = C" "" explain "$file"
+    note="(equation 1 has no finite solution for B: no bindings go on from it)" at="after equation 1, f(A, B, C) = f(B, g(B), a)"
+    said=$(endless_at 1 3:1 "f(A, B, C) = f(B, g(B), a)" B "$empty_after")
+    asked 0 "A and A: $yes $at $note" "$said" apart "$file" A A --after 1
+    asked 0 "$(<"$out")" "$said" apart --after 1 "$file" A A
+    said+=$'\n'$(endless_at 2 4:2 "h(C, [C]) = C" C "$empty_after")
+    run tables "$file"
+    same "tables after an equation without a finite solution" "0 $said" "$status $(<"$err")"
+    same "the last table of it" "Table after equation 3, B = C $note:
+    no entry
+    known: A, B, C" "$(sed -n '/^Table after equation 3/,$p' "$out")"
+    run form "$file" --packed
+    same "the packed form of it" "0 3 0 0 0 $said" "$status $(numbers <"$out") $(<"$err")"
+    # A clash in the same equation is what is told; of two that fail an answer names the first.
+    printf 'vars A B\nfree\nf(A, a) = f(g(A), b)\nA = g(A)\n' >"$file"
+    asked 0 "A and B: $yes after equation 2, A = g(A) (equation 1 clashes, a/0 against b/0: no bindings go on from it)" \
+        "$(clash_at 1 3:1 "f(A, a) = f(g(A), b)" "a/0 against b/0"; endless_at 2 4:1 "A = g(A)" A "$empty_after")" apart "$file" A B
+    # sharerun reads both kinds.
+    printf 'vars 3\n110\n101\nX1 = X1\nX1 = f(X1)\nX2 = X3\n' >"$file"
+    run input "$file"
+    same "status of input of both kinds" "0 $(endless_at 2 5:1 "X1 = f(X1)" X1 "$empty_after")" "$status $(<"$err")"
+    same "sharerun's lines" "vars 3 entries 2|110|101|eq 1 entries 2|110|101|eq 2 entries 0|eq 3 entries 0" "$("$sharerun" <"$out" | paste -sd '|')"
+}
+
+# Such an equation is never full; one that is found before it may be, and then there is no table after it to speak of.
+full_beside_own() {
+    local equation
+    equation="f(X1, X2) = f(g($(other_ones ,)), h(X2))"
+    printf 'vars 16\n%s\n%s\n' "$(next_ones)" "$equation" >"$file"
+    asked 1 "Equation 1 in line 17, $equation:
+    X1 = g($(other_ones ', '))
+    X2 = h(X2)$solves
+    full: this needs a table of more than 256 entries, and nothing after it is applied" "" explain "$file"
+    run pairs "$file"
+    same "pairs of it" "2 0" "$status $(wc -c <"$out")"
+    same "what is said of it" "$(endless_at 1 17:1 "$equation" X2 "")
+$file:17:1: Equation 1 is full: it needs a table of more than 256 entries." "$(head -n 5 "$err")"
+    equation="f(X2, X1) = f(h(X2), g($(other_ones ,)))"
+    printf 'vars 16\n%s\n%s\nX1 = f(X1,%s)\n' "$(next_ones)" "$equation" "$(seq -f 'X%g' -s , 2 15)" >"$file"
+    asked 1 "Equation 1 in line 17, $equation:
+    X2 = h(X2)$solves$empty_after
+Equation 2 in line 18, X1 = f(X1,$(seq -f 'X%g' -s , 2 15)):
+    X1 = f(X1, $(seq -f 'X%g' -s ', ' 2 15))$solves$empty_after" "" explain "$file"
+    run pairs "$file"
+    same "pairs of it the other way round" "0 120" "$status $(grep -c "$yes" "$out")"
+}
+
 # ---- Full equations
 
 # Each of X1 to X16 may share with the next one. The second equation finds X1 = X2 and then one that is full.
 full_pair_file() {
-    printf 'vars 16\n%s\nf(X1) = f(X1)\n\n f(X1, X1%s) = f(X2, g(%s)%s). %% full\nX1 = a\n' "$(next_ones)" "$1" "$(lines 15 'X&' | paste -sd,)" "$2"
+    printf 'vars 16\n%s\nf(X1) = f(X1)\n\n f(X1, X1%s) = f(X2, g(%s)%s). %% full\nX1 = a\n' "$(next_ones)" "$1" "$(other_ones ,)" "$2"
 }
 
 full_pairs() {
     local equation said
-    equation="f(X1, X1) = f(X2, g($(lines 15 'X&' | paste -sd,)))"
+    equation="f(X1, X1) = f(X2, g($(other_ones ,)))"
     full_pair_file "" "" >"$file"
     said="$file:19:2: Equation 2 is full: it needs a table of more than 256 entries.
      $equation. % full
@@ -223,15 +304,15 @@ full_pairs() {
     No answer can be given for a point after it. What is safe to go on with there is
     the all-star table, where every variable may share with every other: $(times 16 '*')
     Before it answers are given (--after 1), from what was known after equation 1, f(X1) = f(X1):
-$(for i in {2..15} 1; do echo "    $(times $((i - 1)) 0)11$(times $((15 - i)) 0)  X$i, X$((i + 1))"; done)"
+$(for i in {1..15}; do echo "    $(times $((i - 1)) 0)11$(times $((15 - i)) 0)  X$i, X$((i + 1))"; done)"
     asked 2 "" "$said" apart "$file" X1 X2
     asked 2 "" "$said" pairs "$file"
     asked 0 "X1 and X3: $yes after equation 1, f(X1) = f(X1)" "" apart "$file" X1 X3 --after 1
     asked 1 "Equation 1 in line 17, f(X1) = f(X1):
-    X1 = X1
+    X1 = X1, which says nothing: the table stays as it is
 Equation 2 in line 19, $equation:
     X1 = X2
-    X1 = g($(lines 15 'X&' | paste -sd, | sed 's/,/, /g'))
+    X1 = g($(other_ones ', '))
     full: this needs a table of more than 256 entries, and nothing after it is applied" "" explain "$file"
     # With a clash behind it the same equation is not full.
     full_pair_file ", a" ", b" >"$file"

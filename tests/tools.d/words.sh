@@ -86,7 +86,7 @@ term_words() {
     writes 'vars 3\nX1 = a(aBz, aB_9, a, aBy)' \
         "3 0 1 5 1 5 $(head_of 1 4) $(head_of 2 0) $(head_of 3 0) $(head_of 1 0) $(head_of 4 0)"
     writes 'vars 3\nX1 = f ( g\t( a ) , X2 ) ' "3 0 1 4 1 4 $(head_of 1 2) $(head_of 2 1) $(head_of 3 0) 2"
-    writes "vars 3\nX1 = f($(lines 15 X1 | paste -sd,))" "3 0 1 16 1 16 $(head_of 1 15) $(lines 15 1 | xargs)"
+    writes "vars 3\nX2 = f($(lines 15 X1 | paste -sd,))" "3 0 1 16 2 16 $(head_of 1 15) $(lines 15 1 | xargs)"
     # Either side may be the variable.
     writes 'vars 3\nf(X1, X2) = X3.\na = X1\n100 = X2\n[] = X1' \
         "3 0 4 6 3 1 2 1 3 1 1 1 $(head_of 1 2) 1 2 $(head_of 2 0) $(head_of 3 0) $(head_of 4 0)"
@@ -103,7 +103,7 @@ $(head_of 1 0) $(head_of 2 0) $(head_of 2 0) $(head_of 3 0) $(head_of 4 0) $(hea
 $(head_of 4 0) $(head_of 5 0) $(head_of 6 0) $(head_of 7 0) $(head_of 2 0)"
     writes "vars 3\nX1 = [a, X2 | X3]\nX2 = '.'([], '[]')" "3 0 2 8 1 2 5 3 \
 $(head_of 1 2) $(head_of 2 0) $(head_of 1 2) 2 3 $(head_of 1 2) $(head_of 3 0) $(head_of 3 0)"
-    writes 'vars 1\nX1 = [ X1 , [ ] ]' "1 0 1 5 1 5 $(head_of 1 2) 1 $(head_of 1 2) $(head_of 2 0) $(head_of 2 0)"
+    writes 'vars 2\nX2 = [ X1 , [ ] ]' "2 0 1 5 2 5 $(head_of 1 2) 1 $(head_of 1 2) $(head_of 2 0) $(head_of 2 0)"
     # Each _ is one more position and one more entry; the entries of the file have 0 there.
     writes 'vars 3\n01*\nX1 = f(_, X2, _)' "5 3 27 31 31 2 8 16 1 4 1 4 $(head_of 1 3) 4 2 5"
     writes 'vars 1\n_ = _\nX1 = a\nf(_) = _' "5 4 31 31 31 31 2 4 8 16 3 4 2 1 5 1 1 2 3 $(head_of 1 0) $(head_of 2 1) 4"

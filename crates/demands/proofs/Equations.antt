@@ -35,6 +35,7 @@ use Rattle.tables.proofs.Tests.{both-true}
 use Rattle.lists.proofs.BindLaws.{then-some}
 use Rattle.terms.specs.Checks.{Written, one-term, two-terms}
 use Rattle.terms.specs.Checks as C
+use Rattle.terms.proofs.Checking.{read-whole}
 use Rattle.operations.specs.Operations.{equation-call, unify-call, written-call}
 use Rattle.operations.specs.Outcomes.{groups-of}
 use Rattle.demands.specs.Demand3.{term-read, written-sides, event-of}
@@ -43,13 +44,8 @@ use Rattle.demands.specs.Demand3.{term-read, written-sides, event-of}
 
 -- a term that the checks read is the one whole term of the tokens
 term-whole : (l : ℕ) (ts : List ℕ) (u : Term) → C.check-term l ts ≡ C.reads u → term-read (whole-term l ts) ≡ u
-unfolding C.check-term C.term-or-6 term-read
-term-whole l ts u e = go (C.all-named l ts) (whole-term l ts) e
-  where
-    go : (c : Bool) (o : Option Term) → cond c (C.term-or-6 o) (C.refuses R.Name) ≡ C.reads u → term-read o ≡ u
-    go true (some t) e = cc
-    go true none e = absurd (let z : _≡_ {A = ℕ} 0 1 = cc in omega arith)
-    go false o e = absurd (let z : _≡_ {A = ℕ} 0 1 = cc in omega arith)
+unfolding term-read
+term-whole l ts u e = ap term-read (read-whole l ts u e)
 
 -- The two sides that the checks read are those that the model is fed.
 pub read-sides : (l : ℕ) (w : Written) (s : Sides) → C.check-written l w ≡ C.reads s → written-sides l w ≡ s

@@ -1,16 +1,19 @@
--- Two walks after which no list grows (02, request 2): one that clashes, wherever the clash stands, and one that
--- finds nothing. After a clash the call is accepted, so that it is never 8, and its table stands for no groups; where
--- nothing is found the table is returned as given. Assumes nothing.
-use mathlib.Core.Path.{_≡_, refl, sym, ap, subst, _∙_}
-use mathlib.Core.List.{List, []}
-use mathlib.Core.Option.{some, none}
+-- Walks in which no list grows (02, requests 2 and 6): one that clashes, wherever the clash stands, one that finds just a
+-- deeper equation, and one that finds nothing but x = x. After the first two the call is accepted, so that it is never 8,
+-- and its table stands for no groups; after the last the table is returned as given. Assumes nothing.
+use mathlib.Core.Path.{_≡_, sym, ap, subst, _∙_}
+use mathlib.Core.List.{List, [], _∷_, _++_}
+use mathlib.Core.Option.{Option, some, none}
 use Prim.Native.Nat.{ℕ}
 use Rattle.model.specs.Groups.{Bits}
-use Rattle.model.specs.Growth.{fold}
-use Rattle.model.specs.Tables.{Side}
+use Rattle.model.specs.Growth.{_>>=_, fold, Entries}
+use Rattle.model.specs.Tables.{Side, groups, no-groups}
+use Rattle.model.specs.Equations.{Equation, itself, deeper, kind}
 use Rattle.model.specs.Walk.{Sides, Walked, walk-sides}
-use Rattle.model.specs.Unification.{AfterWalk, no-groups, walk-entries, unification}
-use Rattle.model.proofs.Unification.{walk-good}
+use Rattle.model.specs.Unification.{next-equation, walk-entries, unification}
+use Rattle.model.proofs.Given.{Each}
+use Rattle.model.proofs.Exact.{shape-good, no-groups-made}
+use Rattle.model.proofs.Unification.{deeper-none, deeper-entries, only-itself}
 use Rattle.tables.specs.declared.Table.{Table}
 use Rattle.tables.specs.declared.Answer.the-variants.{Accepted}
 use Rattle.tables.specs.declared.Answered.{Answered}
@@ -42,30 +45,49 @@ module _ (side : Side) (t : Table) (w : Written) (good : GoodTable t) {s : Sides
   unfolding unification
   decided e = called side t w good s reads ∙ rw (read-sides (t .l) w s reads, e)
 
-  -- Where the walk finds nothing, the table is returned as given.
-  pub nothing-found : walk-sides s ≡ some [] → written-call side t w ≡ accepts t
-  unfolding walk-entries fold made-or-full
-  nothing-found e = decided e ∙ ap accepts (sym (good .same))
+  -- Where every equation that the walk finds is x = x, none at all included, the table is returned as given.
+  pub itself-found : (es : List Equation) → walk-sides s ≡ some es → Each (λ (e : Equation). kind e ≡ itself) es
+      → written-call side t w ≡ accepts t
+  unfolding made-or-full
+  itself-found es e only =
+      decided e ∙ ap (made-or-full (t .l) t) (only-itself side (t .l) es only (entries-of t)) ∙ ap accepts (sym (good .same))
 
-  module _ (clash : walk-sides s ≡ none) where
-    -- Where it clashes, the call is accepted with the table of these entries, whatever stands before the clash;
-    pub clash-accepted : written-call side t w ≡ accepts (table-of (t .l) (no-groups side (t .l)))
-    unfolding walk-entries made-or-full
-    clash-accepted = decided clash
+  -- Where it clashes, the call is accepted with the table of these entries, whatever stands before the clash;
+  pub clash-accepted : walk-sides s ≡ none → written-call side t w ≡ accepts (table-of (t .l) (no-groups side (t .l)))
+  unfolding walk-entries made-or-full
+  clash-accepted e = decided e
 
-    -- the table has no entries where it is positive, one all-star entry where it is negative,
-    pub clash-entries : entries-of (written-call side t w .table) ≡ no-groups side (t .l)
-    unfolding walk-entries
-    clash-entries =
-        ap (λ (a : Answered). entries-of (a .table)) clash-accepted
-        ∙ entries-of-table (t .l) _ (walk-good side (t .l) none (entries-of t) _ (good .list) refl)
+  -- and so it is where just an equation is found whose term holds its variable deeper, as x = t is in a call of its own.
+  pub deeper-accepted : (e : Equation) → walk-sides s ≡ some (e ∷ []) → kind e ≡ deeper
+      → written-call side t w ≡ accepts (table-of (t .l) (no-groups side (t .l)))
+  unfolding walk-entries fold _>>=_ made-or-full
+  deeper-accepted e is k =
+      decided is
+      ∙ ap (λ (o : Option Entries). made-or-full (t .l) t (o >>= λ ρ. fold (next-equation side (t .l)) ρ []))
+      (deeper-entries side (t .l) e k (entries-of t))
+
+  module _ (is : written-call side t w ≡ accepts (table-of (t .l) (no-groups side (t .l)))) where
+    -- That table has no entries where it is positive, one all-star entry where it is negative,
+    pub none-entries : entries-of (written-call side t w .table) ≡ no-groups side (t .l)
+    none-entries =
+        ap (λ (a : Answered). entries-of (a .table)) is
+        ∙ entries-of-table (t .l) _ (shape-good (no-groups-made side (t .l) .shape))
 
     -- and stands for no groups.
-    pub clash-groups : (g : Bits) → ¬ (groups-of side (written-call side t w .table) g)
-    unfolding AfterWalk
-    clash-groups g h =
-        let went = ap (λ (a : Answered). a .answer) clash-accepted in
-        rw (read-sides (t .l) w s reads, clash) at (accepted-exact side t w good went .exact g .0 h)
+    pub none-groups : (g : Bits) → ¬ (groups-of side (written-call side t w .table) g)
+    unfolding table-of
+    none-groups g h =
+        let back = entries-of-table (t .l) _ (shape-good (no-groups-made side (t .l) .shape)) in
+        let there = subst (λ (a : Answered). groups-of side (a .table) g) is h in
+        no-groups-made side (t .l) .equal g .0 (subst (λ (τ : Entries). groups side (t .l) τ g) back there)
+
+  -- A deeper equation found anywhere in the walk, in an accepted call, leaves no groups.
+  pub deeper-groups : (es fs : List Equation) (e : Equation) → walk-sides s ≡ some (es ++ (e ∷ fs)) → kind e ≡ deeper
+      → written-call side t w .answer ≡ Accepted
+      → (g : Bits) → ¬ (groups-of side (written-call side t w .table) g)
+  deeper-groups es fs e is k went g h =
+      deeper-none es fs e k (groups-of side t) g
+      (rw (read-sides (t .l) w s reads, is) at (accepted-exact side t w good went .exact g .0 h))
 
 -- ---- On bytes
 
@@ -75,19 +97,26 @@ module _ (side : Side) (b : List ℕ) {t : Table} (read : Reads b t) (w : Writte
   on-tokens : written-bytes side b w ≡ written-call side t (written-tokens w)
   on-tokens = equation-by-bytes side b read w ∙ bytes-passed side t w passes
 
-  -- A clash on bytes.
+  -- A clash on bytes,
   pub bytes-clash : walk-sides s ≡ none → written-bytes side b w ≡ accepts (table-of (t .l) (no-groups side (t .l)))
   bytes-clash e = on-tokens ∙ clash-accepted side t (written-tokens w) (read-good Plain Whole b t read .0) reads e
 
-  module _ (nothing : walk-sides s ≡ some []) where
-    -- Nothing found on bytes: the table is the one that was read,
-    pub bytes-nothing : written-bytes side b w ≡ accepts t
-    bytes-nothing = on-tokens ∙ nothing-found side t (written-tokens w) (read-good Plain Whole b t read .0) reads nothing
+  -- and a deeper equation.
+  pub bytes-deeper : (e : Equation) → walk-sides s ≡ some (e ∷ []) → kind e ≡ deeper
+      → written-bytes side b w ≡ accepts (table-of (t .l) (no-groups side (t .l)))
+  bytes-deeper e is k =
+      on-tokens ∙ deeper-accepted side t (written-tokens w) (read-good Plain Whole b t read .0) reads e is k
+
+  module _ (es : List Equation) (is : walk-sides s ≡ some es) (only : Each (λ (e : Equation). kind e ≡ itself) es) where
+    -- Only x = x found on bytes: the table is the one that was read,
+    pub bytes-itself : written-bytes side b w ≡ accepts t
+    bytes-itself =
+        on-tokens ∙ itself-found side t (written-tokens w) (read-good Plain Whole b t read .0) reads es is only
 
     -- and what is written is its form.
-    pub nothing-wrote : (out : List ℕ) → output-number (written-bytes side b w) out ≡ 0
+    pub itself-wrote : (out : List ℕ) → output-number (written-bytes side b w) out ≡ 0
         → Wrote Plain t out (output-bytes (written-bytes side b w) out)
-    nothing-wrote out h =
+    itself-wrote out h =
         subst (λ (u : Table). Wrote Plain u out (output-bytes (written-bytes side b w) out))
-        (ap (λ (a : Answered). a .table) bytes-nothing)
+        (ap (λ (a : Answered). a .table) bytes-itself)
         (handed-back Plain (written-bytes side b w) out (equation-made side b w) .wrote h)

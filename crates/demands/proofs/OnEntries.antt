@@ -11,7 +11,7 @@ use Rattle.model.specs.Terms.{arity}
 use Rattle.model.specs.Tokens.{read-row, under-head, read-within, read-term, whole-term}
 use Rattle.model.specs.Tables.{Side, Good, groups}
 use Rattle.model.specs.Walk.{Sides, both, walk, walk-row, walk-sides}
-use Rattle.model.specs.Unification.{no-groups, walk-entries, unification}
+use Rattle.model.specs.Unification.{walk-entries, unification}
 use Rattle.model.specs.Calls.{Event, accepted, refused}
 use Rattle.model.proofs.Computing.{procedures}
 use Rattle.model.proofs.Unification.{walk-good, walk-reduced}
@@ -89,7 +89,7 @@ table-read = tt
 
 -- The walk of two terms, and what the growth rule makes of what it finds.
 unfoldable pub walking : Unit {0}
-unfolding procedures both walk walk-row arity no-groups walk-entries unification
+unfolding procedures both walk walk-row arity walk-entries unification
 walking = tt
 
 -- ---- One equation on the table value of a list

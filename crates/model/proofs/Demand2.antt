@@ -20,8 +20,11 @@ module _ (side : Side) (l : ℕ) (e : Equation) (τ ρ : Entries) (good : Good l
   pub equation-exact : Equal (groups side l ρ) (After e (groups side l τ))
   equation-exact = given-at (equation-made side l e τ good) ρ gives .equal
 
-  pub equation-good : Good l ρ × Reduced ρ
-  equation-good = let s = given-at (equation-made side l e τ good) ρ gives .shape in (shape-good s, s .reduced tt)
+  pub equation-good : Good l ρ
+  equation-good = shape-good (given-at (equation-made side l e τ good) ρ gives .shape)
+
+  pub equation-reduced : 0 < l → Reduced τ → Reduced ρ
+  equation-reduced h r = given-at (equation-made side l e τ good) ρ gives .shape .reduced (h, r)
 
 -- ---- Join, of either side
 

@@ -5,23 +5,26 @@ use mathlib.Core.List.{List, [], _∷_, map}
 use mathlib.Core.Logic.{_↔_, _⊎_, inl, inr, ⊎-elim, ⊎-map, Iff·trans, Iff·symm}
 use mathlib.Core.Option.{some}
 use Prim.Native.Nat.{ℕ, _<_}
+use native.Mathlib.Omega.{arith}
 use lib.Dec.{T, T-not, not-T}
 use lib.ListN.{length}
 use Rattle.model.specs.Groups.{Bits, Groups, nonzero, AOrB, Those, Equated, Projected, Joined, Among, Listed}
-use Rattle.model.specs.Strings.{covers, exactly}
+use Rattle.model.specs.Strings.{covers, exactly, stars}
 use Rattle.model.specs.Growth.{Entries, covered, convert, Reduced}
 use Rattle.model.specs.Tables.{Side, positive, negative, opposite, Wide, Good, groups, meets-of, change-side}
-use Rattle.model.specs.Tables.{positive-projection, kept, equation-of-sets, join, projection}
+use Rattle.model.specs.Tables.{positive-projection, kept, no-groups, equation-of-sets, join, projection}
 use Rattle.model.specs.Questions.{Equal}
 use Rattle.model.specs.Terms.{var, variables}
-use Rattle.model.specs.Equations.{Equation, After, equation}
+use Rattle.model.specs.Equations.{Equation, Kind, itself, deeper, plain, kind, WithVariable, WithSome, AfterKind, After}
+use Rattle.model.specs.Equations.{equation-of-kind, equation}
 use Rattle.model.proofs.Tests.{not-not, nand, or-cases, or-left, or-right, and-first, and-second}
 use Rattle.model.proofs.Bits.{ors-map}
-use Rattle.model.proofs.Strings.{exactly-length, exactly-covers, exactly-one}
+use Rattle.model.proofs.Strings.{exactly-length, exactly-covers, exactly-one, stars-cover}
+use Rattle.model.proofs.Positions.{stars-length}
 use Rattle.model.proofs.Given.{Given, given, given-map, given-both, given-then, Each}
-use Rattle.model.proofs.Shape.{Shape, empty-shape, grow-all-made}
+use Rattle.model.proofs.Shape.{Shape, empty-shape, grow-all-made, reduced-empty, reduced-one}
 use Rattle.model.proofs.Candidates.{wide-long, meets-of-wide, meets-of-covered}
-use Rattle.model.proofs.ChangeSide.{change-side-made}
+use Rattle.model.proofs.ChangeSide.{change-side-made, stars-nonzero}
 use Rattle.model.proofs.Closing.{In, Stands, from-empty}
 use Rattle.model.proofs.PositiveEquation.{positive-exact}
 use Rattle.model.proofs.NegativeEquation.{negative-exact}
@@ -79,10 +82,12 @@ equated-same s x y g = (
   equated-there (λ h. Iff·symm (s h)) (λ h i. Iff·symm (x h (s h .1 i))) (λ h i. Iff·symm (y h (s h .1 i))) g,
 )
 
-pub equation-made : (side : Side) (l : ℕ) (e : Equation) (τ : Entries) → Good l τ
-    → Given (StandsFor Unit side l (After e (groups side l τ))) (equation side l e τ)
-unfolding equation equation-of-sets groups
-equation-made positive l e τ good =
+-- where the term does not hold the variable
+plain-made : (side : Side) (l : ℕ) (e : Equation) (τ : Entries) → Good l τ
+    → Given (StandsFor Unit side l (Equated (WithVariable (e .left)) (WithSome (e .right)) (groups side l τ)))
+    (equation-of-sets side l (variables l (var (e .left))) (variables l (e .right)) τ)
+unfolding equation-of-sets groups
+plain-made positive l e τ good =
     given-map
     (λ ρ s.
     stands-for-same
@@ -92,7 +97,7 @@ equation-made positive l e τ good =
     (of-stands s))
     (positive-exact l τ (good .wide) (variables l (var (e .left))) (variables l (e .right)) (variables-length l (var (e .left)))
     (variables-length l (e .right)))
-equation-made negative l e τ good =
+plain-made negative l e τ good =
     given-map
     (λ ρ s.
     stands-for-same
@@ -101,6 +106,42 @@ equation-made negative l e τ good =
     (record { shape = s .0; equal = s .1 }))
     (negative-exact l τ (variables l (var (e .left))) (variables l (e .right)) (variables-length l (var (e .left)))
     (variables-length l (e .right)) (good-shape good))
+
+-- A table that stands for no groups.
+pub no-groups-made : (side : Side) (l : ℕ) → StandsFor (0 < l) side l (λ g. ⊥) (no-groups side l)
+unfolding no-groups groups covered Wide
+no-groups-made positive l = record {
+  shape = record { wide = tt; few = omega arith; reduced = λ h. reduced-empty };
+  equal = λ g. (λ k. k .1, λ k. absurd k);
+}
+no-groups-made negative l = record {
+  shape = record { wide = (stars-length l, tt); few = omega arith; reduced = λ h. reduced-one (stars l) (stars-nonzero l h) };
+  equal = λ g. (λ k. k .1 (rw (stars-cover l g (k .0 .0)) tt), λ k. absurd k);
+}
+
+-- reduced under more
+reduced-under : {R R′ : Type 0} {side : Side} {l : ℕ} {Q : Groups} {ρ : Entries} → (R′ → R) → StandsFor R side l Q ρ
+    → StandsFor R′ side l Q ρ
+reduced-under f s = record {
+  shape = record { wide = s .shape .wide; few = s .shape .few; reduced = λ r. s .shape .reduced (f r) };
+  equal = s .equal;
+}
+
+-- An equation of each kind; reduced where the table given was, since x = x leaves it.
+kind-made : (k : Kind) (side : Side) (l : ℕ) (e : Equation) (τ : Entries) → Good l τ
+    → Given (StandsFor ((0 < l) × Reduced τ) side l (AfterKind k e (groups side l τ))) (equation-of-kind k side l e τ)
+unfolding equation-of-kind AfterKind
+kind-made itself side l e τ good = given (record {
+  shape = record { wide = good .wide; few = good .few; reduced = λ r. r .1 };
+  equal = λ g. (λ h. h, λ h. h);
+})
+kind-made deeper side l e τ good = given (reduced-under (λ r. r .0) (no-groups-made side l))
+kind-made plain side l e τ good = given-map (λ ρ. reduced-under (λ r. tt)) (plain-made side l e τ good)
+
+pub equation-made : (side : Side) (l : ℕ) (e : Equation) (τ : Entries) → Good l τ
+    → Given (StandsFor ((0 < l) × Reduced τ) side l (After e (groups side l τ))) (equation side l e τ)
+unfolding equation
+equation-made side l e τ good = kind-made (kind e) side l e τ good
 
 -- ---- Join
 

@@ -11,14 +11,15 @@ use Rattle.model.specs.Strings.{t0, t1}
 use Rattle.model.specs.Growth.{_>>=_, Entries}
 use Rattle.model.specs.Tables.{positive, Good, groups}
 use Rattle.model.specs.Terms.{Term, Terms, var, head, nil, cons, arity, occurs, apply, apply-row}
-use Rattle.model.specs.Equations.{Equation}
+use Rattle.model.specs.Equations.{Equation, plain, kind}
 use Rattle.model.specs.Bindings.{Bindings, Substitution, Touches, bound, as-bound, Admitted, apply-all, Describes}
 use Rattle.model.specs.Walk.{Sides, both, walk, walk-row}
 use Rattle.model.specs.Unification.{walk-entries, unification}
 use Rattle.model.specs.Calls.{Step, unified, Steps, Walks, accepted, Reaches, returned, event, last-table, events}
 use Rattle.model.specs.Calls.{answer, unify-call}
 use Rattle.model.proofs.Tests.{or-right, true-of}
-use Rattle.model.proofs.Computing.{procedures}
+use Rattle.model.proofs.OccursCheck.{plain-other}
+use Rattle.model.proofs.Computing.{equations, procedures}
 use Rattle.model.proofs.Unbound.{singles-good, unbound-described}
 use Rattle.model.proofs.Demand3.{with-variable, calls-described}
 
@@ -107,12 +108,17 @@ end-table = (t1 ∷ t1 ∷ t1 ∷ []) ∷ []
 abbrev middle : Bindings
 middle = first .right ∷ var 2 ∷ var 3 ∷ []
 
+-- In neither equation does the term hold the variable.
+pub plains : (kind first ≡ plain) × (kind second ≡ plain)
+unfolding equations
+plains = (refl, refl)
+
 -- Each equation has an admitted unifier that leads on.
 steps : Step start first middle × Step middle second end
 unfolding bound as-bound apply apply-row apply-all
 steps = (
-  unified (gives 1 (first .right)) (gives-admitted 1 (first .right) refl refl),
-  unified (gives 2 (second .right)) (gives-admitted 2 (second .right) refl refl),
+  unified (plain-other (plains .0)) (gives 1 (first .right)) (gives-admitted 1 (first .right) refl refl),
+  unified (plain-other (plains .1)) (gives 2 (second .right)) (gives-admitted 2 (second .right) refl refl),
 )
 
 -- Neither unifier is trivial: each touches the variable of the left side.

@@ -11,9 +11,9 @@ use Rattle.model.specs.Tables.{Side, positive, negative, meets-of, ors, 
 use Rattle.model.specs.Tables.{close-with, close, take-away, change-side, positive-equation, negative-equation}
 use Rattle.model.specs.Tables.{equation-of-sets, join, kept, positive-projection, projection}
 use Rattle.model.specs.Full.{OrLater, CloseFull, ConvertFull, ChangeFull, PositiveFull, NegativeFull}
-use Rattle.model.specs.Full.{EquationFull, JoinFull, ProjectionFull, WalkFull}
+use Rattle.model.specs.Full.{SetsFull, KindFull, EquationFull, JoinFull, ProjectionFull, WalkFull}
 use Rattle.model.specs.Terms.{var, variables}
-use Rattle.model.specs.Equations.{equation}
+use Rattle.model.specs.Equations.{Equation, Kind, itself, deeper, plain, kind, equation-of-kind, equation}
 use Rattle.model.specs.Walk.{Walked}
 use Rattle.model.specs.Unification.{next-equation, walk-entries}
 use Rattle.model.proofs.Overflow.{none-some, fold-full, grow-full, full-exact}
@@ -79,11 +79,21 @@ negative-full l x t τ =
     then-full (change-full l R) (λ K. full-exact [] (meets-of C K)))))))))
 
 -- Equation, of either side.
-pub equation-full : (side : Side) (l : ℕ) (x t : Bits) (τ : Entries)
-    → (equation-of-sets side l x t τ ≡ none) ↔ EquationFull side l x t τ
-unfolding equation-of-sets EquationFull
-equation-full positive l x t τ = positive-full x t τ
-equation-full negative l x t τ = negative-full l x t τ
+sets-full : (side : Side) (l : ℕ) (x t : Bits) (τ : Entries) → (equation-of-sets side l x t τ ≡ none) ↔ SetsFull side l x t τ
+unfolding equation-of-sets SetsFull
+sets-full positive l x t τ = positive-full x t τ
+sets-full negative l x t τ = negative-full l x t τ
+
+kind-full : (k : Kind) (side : Side) (l : ℕ) (e : Equation) (τ : Entries)
+    → (equation-of-kind k side l e τ ≡ none) ↔ KindFull k side l e τ
+unfolding equation-of-kind KindFull
+kind-full itself side l e τ = (λ p. none-some p, λ h. absurd h)
+kind-full deeper side l e τ = (λ p. none-some p, λ h. absurd h)
+kind-full plain side l e τ = sets-full side l (variables l (var (e .left))) (variables l (e .right)) τ
+
+pub equation-full : (side : Side) (l : ℕ) (e : Equation) (τ : Entries) → (equation side l e τ ≡ none) ↔ EquationFull side l e τ
+unfolding equation
+equation-full side l e τ = kind-full (kind e) side l e τ
 
 -- Join, of either side.
 pub join-full : (side : Side) (τ ρ : Entries) → (join side τ ρ ≡ none) ↔ JoinFull side τ ρ
@@ -102,8 +112,7 @@ projection-full negative l k τ =
 
 -- A walk gives nothing exactly where it does not clash and some list of one of the found equations needs entry 257.
 pub walk-full : (side : Side) (l : ℕ) (o : Walked) (τ : Entries) → (walk-entries side l o τ ≡ none) ↔ WalkFull side l o τ
-unfolding walk-entries WalkFull equation
+unfolding walk-entries WalkFull
 walk-full side l none τ = (λ e. none-some e, λ h. absurd h)
 walk-full side l (some es) τ =
-    fold-full (next-equation side l)
-    (λ ρ e. equation-full side l (variables l (var (e .left))) (variables l (e .right)) ρ) τ es
+    fold-full (next-equation side l) (λ ρ e. equation-full side l e ρ) τ es

@@ -22,6 +22,7 @@ pub mod Widest
 pub mod NegativeEquation
 pub mod Projection
 pub mod Variables
+pub mod OccursCheck
 pub mod Exact
 pub mod Demand2
 pub mod Unification

@@ -8,9 +8,9 @@ use Prim.Native.Nat.{ℕ, zero, suc}
 use native.Mathlib.Decide.{ℕ-discrete}
 use native.Mathlib.Omega.{arith}
 use lib.Dec.{T, eqb, eqb→eq, eqb-refl}
-use Rattle.model.specs.Groups.{Bits, Groups, nonzero, has, or, Ors, one, more, AOrB, Those}
+use Rattle.model.specs.Groups.{Bits, Groups, nonzero, has, or, Ors, one, more, AOrB, Those, Equated}
 use Rattle.model.specs.Terms.{Term, var, head, occurs, occurs-row, apply}
-use Rattle.model.specs.Equations.{Equation, WithVariable, WithSome, After}
+use Rattle.model.specs.Equations.{WithVariable, WithSome}
 use Rattle.model.specs.Bindings.{Bindings, Substitution, bound, as-bound, Touches, Admitted, apply-all, string-of}
 use Rattle.model.specs.Bindings.{Describes}
 use Rattle.model.proofs.Tests.{or-cases, or-left, or-right, false-of, same-test, decide, and-first, and-second, and-both}
@@ -231,12 +231,12 @@ module _ (S : Groups) (θ : Bindings) (x : ℕ) (t : Term) (σ : Substitution) (
 
   -- ---- The three cases of w
 
-  abbrev e : Equation
-  e = record { left = x; right = t }
+  abbrev Afterwards : Groups
+  Afterwards = Equated (WithVariable x) (WithSome t) S
 
   -- the string of w before σ, where neither side has w
   apart : (w : ℕ) → ¬ (On w) → (nonzero (string-of θ w) ≡ false) ⊎ S (string-of θ w)
-      → (nonzero (string-of θ w) ≡ false) ⊎ After e S (string-of θ w)
+      → (nonzero (string-of θ w) ≡ false) ⊎ Afterwards (string-of θ w)
   unfolding as-bound
   apart w n (inl z) = inl z
   apart w n (inr s) =
@@ -248,14 +248,14 @@ module _ (S : Groups) (θ : Bindings) (x : ℕ) (t : Term) (σ : Substitution) (
       ))
 
   after : (w : ℕ) → Dec (On w) → Dec (T (occurs w (apply σ left)))
-      → (nonzero (map (λ u. occurs w (apply σ u)) θ) ≡ false) ⊎ After e S (map (λ u. occurs w (apply σ u)) θ)
+      → (nonzero (map (λ u. occurs w (apply σ u)) θ) ≡ false) ⊎ Afterwards (map (λ u. occurs w (apply σ u)) θ)
   unfolding string-of
   after w (no n) d =
-      subst (λ (p : Term → Bool). (nonzero (map p θ) ≡ false) ⊎ After e S (map p θ)) (sym (fun-ext (off w n)))
+      subst (λ (p : Term → Bool). (nonzero (map p θ) ≡ false) ⊎ Afterwards (map p θ)) (sym (fun-ext (off w n)))
       (apart w n (describes w))
   after w (yes on) (no n) = inl (none-zero (λ u. occurs w (apply σ u)) θ (gone w on n))
   after w (yes on) (yes h) = inr (inr (linked w on h))
 
-  pub sharing : Describes (After e S) (apply-all σ θ)
+  pub sharing : Describes (Afterwards) (apply-all σ θ)
   unfolding apply-all string-of
   sharing w = rw map-map (after w (decide (occurs w left || occurs w right)) (decide (occurs w (apply σ left))))

@@ -10,11 +10,12 @@ use native.Mathlib.Omega.{arith}
 use lib.Dec.{T, eqb, eqb→eq, eqb-refl}
 use Rattle.model.specs.Growth.{_>>=_}
 use Rattle.model.specs.Terms.{Term, Terms, var, head, nil, cons, arity, apply, apply-row}
-use Rattle.model.specs.Equations.{Equation}
+use Rattle.model.specs.Equations.{Equation, deeper, kind}
 use Rattle.model.specs.Walk.{Walked, both, walk, walk-row}
 use Rattle.model.specs.Bindings.{Bindings, Substitution, bound, as-bound}
 use Rattle.model.proofs.Tests.{true-of}
 use Rattle.model.proofs.Given.{Each, each-append}
+use Rattle.model.proofs.OccursCheck.{no-solution}
 
 row-arity : (ρ : Substitution) (ts : Terms) → arity (apply-row ρ ts) ≡ arity ts
 unfolding arity apply-row
@@ -116,3 +117,12 @@ module _ (θ : Bindings) (σ : Substitution) where
   pub clash-no-unifier : (s t : Term) → walk s t ≡ none → ¬ (apply σ (as-bound θ s) ≡ apply σ (as-bound θ t))
   unfolding SolvesWalk
   clash-no-unifier s t w e = subst SolvesWalk w (solved s t e)
+
+  -- Where it finds a deeper equation, none does either (the occurs check).
+  pub deeper-no-unifier : (s t : Term) (es fs : List Equation) (e : Equation) → walk s t ≡ some (es ++ (e ∷ fs))
+      → kind e ≡ deeper
+      → ¬ (apply σ (as-bound θ s) ≡ apply σ (as-bound θ t))
+  unfolding Each
+  deeper-no-unifier s t es fs e w k same =
+      let solves = unifier-exact s t (es ++ (e ∷ fs)) w .0 same in
+      no-solution θ σ e k (each-split es (e ∷ fs) solves .1 .0)

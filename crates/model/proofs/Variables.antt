@@ -1,16 +1,16 @@
 -- The set of a term's variables, and the groups that meet it. Assumes nothing.
 use mathlib.Core.Path.{_≡_, refl, ap, subst}
-use mathlib.Core.Bool.{Bool, _&&_}
+use mathlib.Core.Bool.{Bool, false, _&&_}
 use mathlib.Core.List.{[], _∷_}
 use mathlib.Core.Logic.{_↔_, ⊎-elim, Iff·trans}
-use Prim.Native.Nat.{ℕ, zero, suc}
-use native.Mathlib.Nat.{suc-inj, suc-ne-zero}
+use Prim.Native.Nat.{ℕ, zero, suc, _≤_, _<_}
+use native.Mathlib.Nat.{suc-inj, suc-ne-zero, not-suc-le-zero, le-of-suc-le-suc}
 use lib.Dec.{T, eqb→eq, eqb-refl}
-use lib.ListN.{length}
+use lib.ListN.{length, getD}
 use Rattle.model.specs.Groups.{Bits, has, meets}
 use Rattle.model.specs.Terms.{Term, var, occurs, set-of, variables}
 use Rattle.model.specs.Equations.{WithVariable, WithSome}
-use Rattle.model.proofs.Tests.{or-cases, or-left, or-right, and-first, and-second, and-both}
+use Rattle.model.proofs.Tests.{or-cases, or-left, or-right, and-first, and-second, and-both, same-test}
 
 pub set-of-length : (l : ℕ) (p : ℕ → Bool) → length (set-of l p) ≡ l
 unfolding set-of
@@ -35,6 +35,19 @@ set-of-has l p (suc i) [] e h k = absurd h
 set-of-has zero p (suc i) (b ∷ g) e h k = absurd (suc-ne-zero _ e)
 set-of-has (suc l) p (suc zero) (b ∷ g) e h k = k
 set-of-has (suc l) p (suc (suc i)) (b ∷ g) e h k = set-of-has l (λ j. p (suc j)) (suc i) g (suc-inj e) h k
+
+-- the test at one of X1 to Xl
+set-of-at : (l : ℕ) (p : ℕ → Bool) (i : ℕ) → i < l → getD (set-of l p) i false ≡ p (suc i)
+unfolding set-of
+set-of-at zero p i h = absurd (not-suc-le-zero h)
+set-of-at (suc l) p zero h = refl
+set-of-at (suc l) p (suc i) h = set-of-at l (λ j. p (suc j)) i (le-of-suc-le-suc h)
+
+-- The set of t's variables has x, one of X1 to Xl, exactly when x occurs in t.
+pub variables-has : (l x : ℕ) (t : Term) → 0 < x → x ≤ l → has (variables l t) x ≡ occurs x t
+unfolding has variables
+variables-has l zero t p q = absurd (not-suc-le-zero p)
+variables-has l (suc i) t p q = set-of-at l (λ j. occurs j t) i q
 
 -- a group meets a set exactly when it has a variable of the set
 pub meets-has : (m g : Bits) → T (meets m g) → (y : ℕ) × T (has m y) × T (has g y)
@@ -72,3 +85,10 @@ unfolding occurs
 meets-variable l x g e =
     Iff·trans (meets-variables l (var x) g e)
     (λ r. subst (λ (y : ℕ). T (has g y)) (eqb→eq (r .0) x (r .1)) (r .2), λ h. (x, eqb-refl x, h))
+
+-- The set of x alone, one of X1 to Xl, meets that of t's variables exactly when x occurs in t.
+pub variables-meet : (l x : ℕ) (t : Term) → 0 < x → x ≤ l → meets (variables l (var x)) (variables l t) ≡ occurs x t
+variables-meet l x t p q =
+    let m = meets-variable l x (variables l t) (variables-length l t) in
+    let h = variables-has l x t p q in
+    same-test (meets (variables l (var x)) (variables l t)) (occurs x t) (λ k. rw h at (m .0 k)) (λ k. m .1 (rw h k))

@@ -1,5 +1,5 @@
--- A list of equation calls, x = t or two terms, and the model of the bindings under it (01, "Bindings and runs"; 02, request
--- 2), for any kind of table and of call. A call x = t is one whose left side is the variable x: its walk finds just that
+-- A list of equation calls, x = t or two terms, and the model of the bindings under it (01, "Bindings and runs"; 02, requests
+-- 2 and 6), for any kind of table and of call. A call x = t is one whose left side is the variable x: its walk finds just that
 -- equation.
 use mathlib.Core.Path.{_≡_}
 use mathlib.Core.List.{List, [], _∷_}
@@ -9,15 +9,17 @@ use Rattle.model.specs.Groups.{Groups}
 use Rattle.model.specs.Growth.{Entries}
 use Rattle.model.specs.Tables.{Side}
 use Rattle.model.specs.Questions.{Equal}
-use Rattle.model.specs.Equations.{Equation}
+use Rattle.model.specs.Equations.{Equation, itself, kind}
 use Rattle.model.specs.Walk.{Sides, Walked, walk-sides}
 use Rattle.model.specs.Unification.{AfterSides, unification}
 use Rattle.model.specs.Bindings.{Bindings, Substitution, bound, as-bound, Admitted, apply-all}
 
--- The bindings after one found equation: any unifier admitted by its own two sides under the bindings so far is applied.
--- Where there is none, no bindings go on.
+-- The bindings after one found equation. Of x = x they are those left unchanged (02, request 6). Of any other, any unifier
+-- admitted by its own two sides under the bindings so far is applied; where there is none, no bindings go on.
 pub data Step (θ : Bindings) (e : Equation) : Bindings → Type 0 where
-  unified : (σ : Substitution) → Admitted σ (bound θ (e .left)) (as-bound θ (e .right)) → Step θ e (apply-all σ θ)
+  unchanged : kind e ≡ itself → Step θ e θ
+  unified : ¬ (kind e ≡ itself) → (σ : Substitution) → Admitted σ (bound θ (e .left)) (as-bound θ (e .right))
+      → Step θ e (apply-all σ θ)
 
 -- After each found equation in turn.
 unfoldable pub Steps : Bindings → List Equation → Bindings → Type 0

@@ -10,7 +10,7 @@ use Rattle.model.specs.Growth.{Entries, grow, grow-all, Full, Meets, Ove
 use Rattle.model.specs.Tables.{Side, positive, negative, meets-of, ors, unmatched, pieces-of, relevant, irrelevant, cross}
 use Rattle.model.specs.Tables.{close-with, close, take-away, change-side, kept, positive-projection}
 use Rattle.model.specs.Terms.{var, variables}
-use Rattle.model.specs.Equations.{Equation}
+use Rattle.model.specs.Equations.{Equation, Kind, itself, deeper, plain, kind}
 use Rattle.model.specs.Walk.{Walked}
 use Rattle.model.specs.Unification.{next-equation}
 
@@ -51,10 +51,20 @@ NegativeFull l x t τ =
     OrLater (CloseFull J) (close J) (λ R.
     OrLater (ChangeFull l R) (change-side l R) (λ K. Overflows [] (meets-of C K)))))))))
 
--- Equation, of either side.
-unfoldable pub EquationFull : Side → ℕ → Bits → Bits → Entries → Type 0
-EquationFull positive l x t τ = PositiveFull x t τ
-EquationFull negative l x t τ = NegativeFull l x t τ
+-- Equation, of either side, for a set with x alone and the set of t's variables.
+unfoldable pub SetsFull : Side → ℕ → Bits → Bits → Entries → Type 0
+SetsFull positive l x t τ = PositiveFull x t τ
+SetsFull negative l x t τ = NegativeFull l x t τ
+
+-- An equation of a kind: where t holds x, no list grows.
+unfoldable pub KindFull : Kind → Side → ℕ → Equation → Entries → Type 0
+KindFull itself side l e τ = ⊥
+KindFull deeper side l e τ = ⊥
+KindFull plain side l e τ = SetsFull side l (variables l (var (e .left))) (variables l (e .right)) τ
+
+-- Equation x = t, of either side.
+abbrev pub EquationFull : Side → ℕ → Equation → Entries → Type 0
+EquationFull side l e τ = KindFull (kind e) side l e τ
 
 -- Join, of either side.
 unfoldable pub JoinFull : Side → Entries → Entries → Type 0
@@ -70,8 +80,7 @@ ProjectionFull negative l k τ =
 
 -- Equations in order: some list of one of them, on the entries that those before it give.
 abbrev pub EachFull : Side → ℕ → Entries → List Equation → Type 0
-EachFull side l =
-    Meets (λ τ e. EquationFull side l (variables l (var (e .left))) (variables l (e .right)) τ) (next-equation side l)
+EachFull side l = Meets (λ τ e. EquationFull side l e τ) (next-equation side l)
 
 -- A walk: some list of one of the found equations; a clash needs none.
 unfoldable pub WalkFull : Side → ℕ → Walked → Entries → Type 0

@@ -60,7 +60,8 @@ abbrev pub Those : Groups → Groups → Groups
 Those S X g = S g × X g
 
 -- Equation x = t on the groups S (abstract unification), where X says that a group has x and Y that it has some variable of t:
--- the groups with neither, together with every "or" of one or more strings, each an a-or-b with a in A and b in B.
+-- the groups with neither, together with every "or" of one or more strings, each an a-or-b with a in A and b in B. Where t
+-- holds x, `Equations.AfterKind` has another rule.
 abbrev pub Equated : Groups → Groups → Groups → Groups
 Equated X Y S g = (S g × ¬ (X g) × ¬ (Y g)) ⊎ Ors (AOrB (Those S X) (Those S Y)) g
 

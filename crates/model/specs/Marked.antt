@@ -1,4 +1,4 @@
--- The rows a to j of 01, "Marked for proof", row f as request 3 of 02 has it: one list of cases, and what it is for a case to hold.
+-- The rows a to j of 01, "Marked for proof", row f as request 6 of 02 has it: one list of cases, and what it is for a case to hold.
 use mathlib.Core.Path.{_≡_}
 use mathlib.Core.Bool.{true, false}
 use mathlib.Core.List.{List, [], _∷_}
@@ -80,7 +80,7 @@ marked =
     ∷ equated-is
     ((t1 ∷ t1 ∷ t0 ∷ []) ∷ (t1 ∷ t0 ∷ t1 ∷ []) ∷ [])
     (equate 1 (var 1))
-    ((t1 ∷ t1 ∷ t* ∷ []) ∷ (t1 ∷ t* ∷ t1 ∷ []) ∷ [])
+    ((t1 ∷ t1 ∷ t0 ∷ []) ∷ (t1 ∷ t0 ∷ t1 ∷ []) ∷ [])
     ∷ changed-is table-c ((t1 ∷ t1 ∷ t* ∷ []) ∷ (t1 ∷ t* ∷ t1 ∷ []) ∷ [])
     ∷ projected-is table-d (true ∷ true ∷ false ∷ []) ((t1 ∷ t1 ∷ []) ∷ [])
     ∷ are-equal ((t0 ∷ t* ∷ []) ∷ (t1 ∷ t* ∷ []) ∷ []) ((t* ∷ t* ∷ []) ∷ [])

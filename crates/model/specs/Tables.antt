@@ -34,6 +34,11 @@ unfoldable pub groups : Side → ℕ → Entries → Groups
 groups positive l τ g = Group l g × T (covered τ g)
 groups negative l τ g = Group l g × ¬ (T (covered τ g))
 
+-- The entries of a table that stands for no groups: none where it is positive, one all-star entry where it is negative.
+unfoldable pub no-groups : Side → ℕ → Entries
+no-groups positive l = []
+no-groups negative l = stars l ∷ []
+
 -- ---- Lists of candidates for growth
 
 -- The meet of two strings, if they match.

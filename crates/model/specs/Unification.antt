@@ -3,9 +3,8 @@ use mathlib.Core.List.{List, [], _∷_}
 use mathlib.Core.Option.{Option, some, none}
 use Prim.Native.Nat.{ℕ}
 use Rattle.model.specs.Groups.{Groups}
-use Rattle.model.specs.Strings.{stars}
 use Rattle.model.specs.Growth.{fold, Entries}
-use Rattle.model.specs.Tables.{Side, positive, negative}
+use Rattle.model.specs.Tables.{Side, no-groups}
 use Rattle.model.specs.Equations.{Equation, After, equation}
 use Rattle.model.specs.Walk.{Sides, Walked, walk-sides}
 
@@ -26,11 +25,6 @@ abbrev pub AfterSides : Sides → Groups → Groups
 AfterSides s S = AfterWalk (walk-sides s) S
 
 -- ---- Entries
-
--- The entries of a table that stands for no groups: none where it is positive, one all-star entry where it is negative.
-unfoldable pub no-groups : Side → ℕ → Entries
-no-groups positive l = []
-no-groups negative l = stars l ∷ []
 
 -- The entries after one more equation.
 abbrev pub next-equation : Side → ℕ → Entries → Equation → Option Entries

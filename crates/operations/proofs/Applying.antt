@@ -5,11 +5,8 @@ use mathlib.Core.Option.{Option, some}
 use Prim.Native.Nat.{ℕ}
 use Rattle.model.specs.Growth.{_>>=_, fold, Entries}
 use Rattle.model.specs.Tables.{Side}
-use Rattle.model.specs.Terms.{var, variables}
 use Rattle.model.specs.Equations.{Equation, equation}
-use Rattle.model.specs.Tables.{equation-of-sets}
 use Rattle.model.specs.Unification.{next-equation, walk-entries}
-use Rattle.model.proofs.Variables.{variables-length}
 use Rattle.tables.specs.declared.Table.{Table}
 use Rattle.tables.specs.declared.Refusal.the-variants as R
 use Rattle.tables.specs.Values.{refuses, made-or-full}
@@ -17,7 +14,8 @@ use Rattle.lists.specs.declared.Grown.{Grown}
 use Rattle.lists.specs.declared.Grown.the-variants.{Count, Full}
 use Rattle.lists.specs.WorkingLists.{Holds, Makes, makes}
 use Rattle.lists.proofs.Holding.{makes-count, makes-full}
-use Rattle.procedures.specs.Parts.{OfSets}
+use Rattle.terms.specs.declared.Equation as E
+use Rattle.terms.specs.EquationKinds.{Told}
 use Rattle.walks.specs.Cursors.{Rest}
 use Rattle.walks.proofs.Consuming.{Listed}
 
@@ -43,13 +41,10 @@ module _ {side : Side} {l : ℕ} {τ₀ : Entries} {list : List ℕ} {n : ℕ} {
   so-far-end e = rw (sym (s .same) ∙ ap (fold (next-equation side l) (s .τ)) e) (makes (s .held))
 
   -- one equation more, and what it makes of the list
-  module _ {x y a b : ℕ} (w : Listed l left right i j (s .others) x y a b) {list′ : List ℕ} {r : Grown}
-      (made : OfSets l list n x y (λ τ p q. Makes l list′ r (equation-of-sets side l p q τ))) where
+  module _ {q : E.Equation} {a b : ℕ} (w : Listed l left right i j (s .others) q a b) {list′ : List ℕ} {r : Grown}
+      (made : (τ : Entries) (e : Equation) → Holds l list n τ → Told l q e → Makes l list′ r (equation side l e τ)) where
     called : Makes l list′ r (equation side l (w .e) (s .τ))
-    unfolding equation
-    called =
-        made (s .τ) (variables l (var (w .e .left))) (variables l (w .e .right)) (s .held)
-        (variables-length l (var (w .e .left))) (variables-length l (w .e .right)) (w .told .left) (w .told .right)
+    called = made (s .τ) (w .e) (s .held) (w .told)
 
     next : {o : Option Entries} → equation side l (w .e) (s .τ) ≡ o
         → (o >>= λ ρ. fold (next-equation side l) ρ (w .others)) ≡ fold (next-equation side l) τ₀ es

@@ -1,16 +1,18 @@
 -- What holds after a call's checks: of a good table, of an equation that was read, of a set to project on. Assumes nothing.
-use mathlib.Core.Path.{_≡_, refl, ap, subst}
+use mathlib.Core.Path.{_≡_, refl, sym, ap, subst, _∙_}
 use mathlib.Core.Bool.{Bool, true, false, _&&_, cond}
 use mathlib.Core.List.{List}
-use Prim.Native.Nat.{ℕ, _-_, _^_, _≤_, _<_}
+use Prim.Native.Nat.{ℕ, _-_, _*_, _%_, _^_, _≤_, _<_}
 use native.Mathlib.Omega.{arith}
 use borrow.Author.Tests.{ltb-true, leb-true}
 use lib.Dec.{ltb, leb}
 use lib.ListN.{length}
 use Rattle.model.specs.Growth.{Entries}
 use Rattle.model.specs.Terms.{Term, variables}
-use Rattle.model.specs.Tokens.{named}
+use Rattle.model.specs.Tokens.{Tokens, named}
+use Rattle.model.proofs.Reader.{whole-exact}
 use Rattle.words.specs.Words.{set-word}
+use Rattle.words.proofs.Positions.{one-shl}
 use Rattle.tables.specs.declared.Table.{Table}
 use Rattle.tables.specs.declared.Refusal.{Refusal}
 use Rattle.tables.specs.declared.Refusal.the-variants as R
@@ -22,8 +24,10 @@ use Rattle.tables.proofs.Checking.{good-holds, width-most}
 use Rattle.tables.proofs.Tests.{both-true, below-full}
 use Rattle.terms.specs.declared.Checked.the-variants.{Variables, Refused}
 use Rattle.terms.specs.Checks as C
+use Rattle.terms.specs.EquationKinds.{Counted}
 use Rattle.terms.specs.Checks.{check-equation, check-term, checked, check-answer}
-use Rattle.terms.proofs.Checking.{checked-reads}
+use Rattle.terms.proofs.Reader.{one-variable}
+use Rattle.terms.proofs.Checking.{checked-reads, read-whole}
 use Rattle.operations.specs.Operations.{good-keep}
 
 -- ---- A good table
@@ -51,6 +55,7 @@ held-as {list = list} {n = n} {τ = τ} e h = subst (λ (l : ℕ). Holds l list 
 pub record Read (l x : ℕ) (ts : List ℕ) (m : ℕ) : Type 0 where
   pub term : Term
   pub is : check-equation l x ts ≡ C.reads term
+  pub whole : check-term l ts ≡ C.reads term
   pub word : m ≡ set-word (variables l term)
   pub left : named l x ≡ true
   pub low : 0 < x
@@ -58,8 +63,8 @@ pub record Read (l x : ℕ) (ts : List ℕ) (m : ℕ) : Type 0 where
 
 -- where the two tests before the term's fail, the outcome is a refusal
 read-tests : (b c : Bool) (o : C.Outcome Term) (u : Term)
-    → cond b (cond c o (C.refuses R.Name)) (C.refuses R.Long) ≡ C.reads u → c ≡ true
-read-tests true true o u e = refl
+    → cond b (cond c o (C.refuses R.Name)) (C.refuses R.Long) ≡ C.reads u → (c ≡ true) × (o ≡ C.reads u)
+read-tests true true o u e = (refl, e)
 read-tests true false o u e = absurd (let z : _≡_ {A = ℕ} 0 1 = cc in omega arith)
 read-tests false c o u e = absurd (let z : _≡_ {A = ℕ} 0 1 = cc in omega arith)
 
@@ -68,8 +73,27 @@ unfolding check-equation
 read-equation l x ts m e =
     let o = checked-reads l m (check-equation l x ts) e in
     let n = read-tests (leb (length ts) C.most-tokens) (named l x) (check-term l ts) (o .0) (o .1) in
-    let b = both-true (ltb 0 x) (leb x l) n in
-    record { term = o .0; is = o .1; word = o .2; left = n; low = ltb-true 0 x (b .0); high = leb-true x l (b .1) }
+    let b = both-true (ltb 0 x) (leb x l) (n .0) in
+    record {
+      term = o .0;
+      is = o .1;
+      whole = n .1;
+      word = o .2;
+      left = n .0;
+      low = ltb-true 0 x (b .0);
+      high = leb-true x l (b .1);
+    }
+
+-- What the sets and the tokens of an equation that was read come to.
+pub read-counted : {l x : ℕ} {ts : List ℕ} {m : ℕ} → l ≤ 32 → Tokens ts → (r : Read l x ts m)
+    → Counted l ((1 * 2 ^ (x - 1)) % 2 ^ 32) m (length ts) (record { left = x; right = r .term })
+unfolding variables
+read-counted {l} {x} {ts} few tokens r = record {
+  named = rw (r .left) tt;
+  left-set = one-shl (x - 1) 32 (omega (arith, r .high, r .low)) ∙ sym (one-variable l x (r .left));
+  right-set = r .word;
+  count = ap length (whole-exact l ts (r .term) tokens .0 (read-whole l ts (r .term) (r .whole)) .1);
+}
 
 -- ---- The checks of two terms
 

@@ -14,7 +14,7 @@ use Rattle.model.specs.Growth.{Entries, convert}
 use Rattle.model.specs.Terms.{Term}
 use Rattle.model.specs.Tables.{Side, positive, opposite, Good, groups, kept, change-side, join, projection}
 use Rattle.model.specs.Questions.{Equal}
-use Rattle.model.specs.Equations.{Equation, equation}
+use Rattle.model.specs.Equations.{Equation}
 use Rattle.model.specs.Walk.{walk-sides}
 use Rattle.model.specs.Unification.{unification}
 use Rattle.model.proofs.Fullness as F
@@ -115,14 +115,14 @@ convert-outcome l ws =
 -- ---- Equation
 
 pub equation-outcome : (side : Side) (t : Table) (x : ℕ) (ts : List ℕ) → TableValue t → EquationOutcome side t x ts
-unfolding equation-call equation
+unfolding equation-call
 equation-outcome side t x ts value =
     let eq : Term → Equation = λ u. record { left = x; right = u } in
     checked-first t value _ (λ r e. inl e) (λ good.
     read-first (C.check-equation (t .l) x ts) _ (λ r e. inr (good, e)) (λ u e.
-    grown (record { table = good; term = u; reads = e }) (t .l) _ (F.equation-full side (t .l) _ _ (entries-of t))
+    grown (record { table = good; term = u; reads = e }) (t .l) _ (F.equation-full side (t .l) (eq u) (entries-of t))
     (λ ρ m.
-    becomes side (t .l) _ ρ (good .width) (D.equation-good side (t .l) (eq u) (entries-of t) ρ (good .list) m .0)
+    becomes side (t .l) _ ρ (good .width) (D.equation-good side (t .l) (eq u) (entries-of t) ρ (good .list) m)
     (D.equation-exact side (t .l) (eq u) (entries-of t) ρ (good .list) m))))
 
 -- ---- Two terms

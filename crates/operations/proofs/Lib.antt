@@ -1,4 +1,5 @@
 pub mod Checked
+pub mod OfKinds
 pub mod Applying
 pub mod Demand2
 pub mod Exclusive

@@ -9,7 +9,7 @@ use lib.Dec.{T}
 use lib.ListN.{length}
 use Rattle.model.specs.Groups.{Groups, Projected, Joined, Listed}
 use Rattle.model.specs.Growth.{limit}
-use Rattle.model.specs.Terms.{Term, var, variables}
+use Rattle.model.specs.Terms.{Term}
 use Rattle.model.specs.Tables.{Side, positive, opposite, groups, kept}
 use Rattle.model.specs.Questions.{Equal}
 use Rattle.model.specs.Equations.{After}
@@ -108,7 +108,7 @@ pub record EquationReady (t : Table) (x : ℕ) (ts : List ℕ) : Type 0 where
 
 -- Some list of the equation with the term u needs entry 257.
 abbrev pub EquationNeeds : Side → Table → ℕ → Term → Type 0
-EquationNeeds side t x u = EquationFull side (t .l) (variables (t .l) (var x)) (variables (t .l) u) (entries-of t)
+EquationNeeds side t x u = EquationFull side (t .l) (record { left = x; right = u }) (entries-of t)
 
 -- Every answer of the equation call; the groups after it are those of the binary definition.
 abbrev pub EquationOutcome : Side → Table → ℕ → List ℕ → Type 0

@@ -7,23 +7,26 @@ use tables::Answered;
 use tables::Refusal;
 use tables::Table;
 use terms::Checked;
+use terms::Equation;
+use terms::Kind;
 use walks::Found;
 ghost use mathlib.Core.Path.{_≡_};
 ghost use mathlib.Core.Bool.{true};
 ghost use mathlib.Core.List.{List};
 ghost use mathlib.Core.Option.{some};
-ghost use Prim.Native.Nat.{_≤_};
+ghost use Prim.Native.Nat.{ℕ, _≤_};
 ghost use lib.ListN.{length};
 ghost use Rattle.model.specs.Groups.{Bits};
 ghost use Rattle.model.specs.Growth.{Entries, limit};
-ghost use Rattle.model.specs.Tables.{equation-of-sets, join as join-lists, kept, projection};
-ghost use Rattle.model.specs.Equations.{Equation};
+ghost use Rattle.model.specs.Tables.{equation-of-sets, join as join-lists, kept, projection, no-groups};
+ghost use Rattle.model.specs.Equations as M;
 ghost use Rattle.model.specs.Walk.{Walked};
-ghost use Rattle.model.specs.Unification.{no-groups, walk-entries};
+ghost use Rattle.model.specs.Unification.{walk-entries};
 ghost use Rattle.words.specs.Words.{set-word};
 ghost use Rattle.lists.specs.WorkingLists.{Holds, Within, Makes};
 ghost use Rattle.tables.specs.Values.{accepts, refuses, made-or-full, good-width, GoodTable, table-of, entries-of};
 ghost use Rattle.procedures.specs.Parts.{OfSets};
+ghost use Rattle.terms.specs.EquationKinds.{Told};
 ghost use Rattle.walks.specs.Cursors.{Rest};
 ghost use Rattle.operations.specs.Operations.{side-of, side-numbered, convert-call, equation-call, unify-call, join-call};
 ghost use Rattle.operations.specs.Operations.{projection-call, change-side-call};
@@ -44,6 +47,16 @@ pub fn side_numbered(number: u32) -> Side
     Side::Negative
 }
 
+// Accepted, with the table that is returned.
+fn accepted(t: Table) -> Answered
+    ensures { λ a. ⌜ a ≡ accepts t ⌝ }
+{
+    Answered {
+        answer: Answer::Accepted,
+        table: t,
+    }
+}
+
 // A refusal, with the table that is returned. Inner: not a public call.
 pub fn refused(r: Refusal, t: Table) -> Answered
     ensures { λ a. ⌜ a ≡ refuses r t ⌝ }
@@ -51,6 +64,33 @@ pub fn refused(r: Refusal, t: Table) -> Answered
     Answered {
         answer: Answer::Refused(r),
         table: t,
+    }
+}
+
+// The table of l variables that stands for no groups: empty where it is positive, all-star where it is negative.
+fn no_groups(side: Side, l: u32) -> Answered
+    requires { ⌜ good-width l ≡ true ⌝ }
+    ensures { λ r. ⌜ r ≡ accepts (table-of l (no-groups (side-of side) l)) ⌝ }
+{
+    match side {
+        Side::Positive => Table::empty(l),
+        Side::Negative => Table::all_star(l),
+    }
+}
+
+// The same as a working list, and how many entries it has: the word of the all-star string is 0.
+fn no_groups_list(side: Side, list: &mut [u64; 256]) -> usize
+    ensures few { λ n. ⌜ n ≤ limit ⌝ }
+    ensures made { λ n. ⌜ ((l : ℕ) → l ≤ 32 → Holds l (now (list .exit)) n (no-groups (side-of side) l)) ⌝ }
+{
+    // As a slice its length is known.
+    let whole: &[u64] = &*list;
+    match side {
+        Side::Positive => 0,
+        Side::Negative => {
+            list[0] = 0;
+            1
+        }
     }
 }
 
@@ -109,6 +149,23 @@ fn equation_sets_checked(side: Side, t: Table, mx: u32, mt: u32) -> Answered
     lists::values::made_or_full(l, t, g, &list)
 }
 
+// An equation that was read, on a checked table: x = x leaves the table as given, and where t holds x deeper, which has no
+// finite solution, there are no groups. Neither grows a list.
+fn equation_read(side: Side, t: Table, e: Equation) -> Answered
+    requires { ⌜ GoodTable t ⌝ }
+    ensures { λ r. ⌜
+        ((q : M.Equation) → Told (t .l) e q
+        → r ≡ made-or-full (t .l) t (M.equation (side-of side) (t .l) q (entries-of t)))
+        ⌝ }
+{
+    let kind = e.kind;
+    match kind {
+        Kind::Itself => accepted(t),
+        Kind::Deeper => no_groups(side, t.l),
+        Kind::Plain => equation_sets_checked(side, t, e.left, e.right),
+    }
+}
+
 // The equation Xx = the term of the tokens, on a checked table. Inner: not a public call.
 pub fn equation_checked(side: Side, t: Table, x: u32, ts: &[u16]) -> Answered
     requires { ⌜ GoodTable t ⌝ }
@@ -117,7 +174,9 @@ pub fn equation_checked(side: Side, t: Table, x: u32, ts: &[u16]) -> Answered
     let l = t.l;
     match terms::check_equation(l, x, ts) {
         Checked::Refused(r) => refused(r, t),
-        Checked::Variables(m) => equation_sets_checked(side, t, 1u32 << (x - 1), m),
+        Checked::Variables(m) => {
+            equation_read(side, t, terms::equation_of(1u32 << (x - 1), m, ts.len()))
+        }
     }
 }
 
@@ -131,53 +190,53 @@ pub fn equation(side: Side, t: Table, x: u32, ts: &[u16]) -> Answered
     }
 }
 
-// The table of l variables that stands for no groups: empty where it is positive, all-star where it is negative.
-fn no_groups(side: Side, l: u32) -> Answered
-    requires { ⌜ good-width l ≡ true ⌝ }
-    ensures { λ r. ⌜ r ≡ accepts (table-of l (no-groups (side-of side) l)) ⌝ }
+// A found equation on a working list, in place.
+fn equate(side: Side, e: Equation, list: &mut [u64; 256], n: usize, l: u32) -> Grown
+    requires { ⌜ (n ≤ limit) × (l ≤ 32) ⌝ }
+    ensures within { λ r. ⌜ Within r ⌝ }
+    ensures made { λ r. ⌜
+        ((τ : Entries) (q : M.Equation) → Holds l (now (list .entry)) n τ → Told l e q
+        → Makes l (now (list .exit)) r (M.equation (side-of side) l q τ))
+        ⌝ }
 {
-    match side {
-        Side::Positive => Table::empty(l),
-        Side::Negative => Table::all_star(l),
+    let kind = e.kind;
+    match kind {
+        Kind::Itself => Grown::Count(n),
+        Kind::Deeper => Grown::Count(no_groups_list(side, list)),
+        Kind::Plain => {
+            let given = *list;
+            equation_list(side, &given, n, l, e.left, e.right, list)
+        }
     }
 }
 
 // The equations that the walk of two terms finds, applied in order to a checked table; the walk does not clash.
 fn apply_found(side: Side, t: Table, left: &[u16], right: &[u16]) -> Answered
-    requires { ⌜ GoodTable t × ((es : List Equation) × Rest (t .l) (now left) (now right) 0 0 (some es)) ⌝ }
+    requires { ⌜ GoodTable t × ((es : List M.Equation) × Rest (t .l) (now left) (now right) 0 0 (some es)) ⌝ }
     ensures { λ r. ⌜
-        ((es : List Equation) → Rest (t .l) (now (left .entry)) (now (right .entry)) 0 0 (some es)
+        ((es : List M.Equation) → Rest (t .l) (now (left .entry)) (now (right .entry)) 0 0 (some es)
         → r ≡ made-or-full (t .l) t (walk-entries (side-of side) (t .l) (some es) (entries-of t)))
         ⌝ }
 {
     let l = t.l;
     let mut n = t.n;
-    let mut given = [0u64; 256];
-    lists::values::load(&t.care, &t.value, n, &mut given);
+    let mut list = [0u64; 256];
+    lists::values::load(&t.care, &t.value, n, &mut list);
     let mut at_left = 0;
     let mut at_right = 0;
     loop {
         match walks::next(left, at_left, right, at_right) {
-            Found::Equation {
-                left: x,
-                right: y,
-                i,
-                j,
-            } => {
-                let mut list = [0u64; 256];
-                match equation_list(side, &given, n, l, x, y, &mut list) {
-                    Grown::Full => return refused(Refusal::Full, t),
-                    Grown::Count(k) => {
-                        given = list;
-                        n = k;
-                        at_left = i;
-                        at_right = j;
-                    }
+            Found::Equation { found: e, i, j } => match equate(side, e, &mut list, n, l) {
+                Grown::Full => return refused(Refusal::Full, t),
+                Grown::Count(k) => {
+                    n = k;
+                    at_left = i;
+                    at_right = j;
                 }
-            }
+            },
             // It does not clash.
             Found::Clash => return refused(Refusal::Full, t),
-            Found::End => return lists::values::made_or_full(l, t, Grown::Count(n), &given),
+            Found::End => return lists::values::made_or_full(l, t, Grown::Count(n), &list),
         }
     }
 }

@@ -1,18 +1,19 @@
 -- Laws of the questions that users lean on, as statements over groups; of the empty set, as replies. Assumes nothing.
-use mathlib.Core.Path.{_≡_}
+use mathlib.Core.Path.{_≡_, refl, sym, subst}
 use mathlib.Core.List.{[], _∷_}
 use mathlib.Core.Logic.{⊎-elim}
 use Prim.Native.Nat.{ℕ, zero, suc, _^_, _<_}
 use borrow.Author.Tests.{lt-ltb}
-use lib.Dec.{T}
+use lib.Dec.{T, eqb-refl}
 use lib.ListN.{length}
 use lib.Pow.{pow-pos}
 use Rattle.model.specs.Groups.{Bits, Groups, Ors, one, more, has, meets, AOrB, Those}
-use Rattle.model.specs.Terms.{var, occurs, variables}
+use Rattle.model.specs.Terms.{Term, var, occurs, variables}
 use Rattle.model.specs.Tables.{Side}
-use Rattle.model.specs.Equations.{Equation, After, WithVariable, WithSome}
+use Rattle.model.specs.Equations.{Equation, Kind, itself, deeper, plain, kind, WithVariable, WithSome, AfterKind, After}
 use Rattle.model.specs.Questions.{Equal, Ground, Independent}
 use Rattle.model.proofs.Variables.{meets-variable}
+use Rattle.model.proofs.OccursCheck.{itself-is}
 use Rattle.words.specs.Words.{set}
 use Rattle.tables.specs.declared.Table.{Table}
 use Rattle.tables.specs.Values.{GoodTable}
@@ -46,12 +47,21 @@ none-related : (S X Y : Groups) → ((g : Bits) → S g → ¬ (Y g)) → (g : B
 none-related S X Y f g (one p) = f (p .b) (p .in-b .0) (p .in-b .1)
 none-related S X Y f g (more p q) = f (p .b) (p .in-b .0) (p .in-b .1)
 
+-- in an equation of each kind
+ground-kind : (k : Kind) (S : Groups) (e : Equation) → kind e ≡ k → ((y : ℕ) → T (occurs y (e .right)) → Ground S y)
+    → Ground (AfterKind k e S) (e .left)
+unfolding AfterKind occurs
+ground-kind itself S e q f g h x =
+    f (e .left) (subst (λ (t : Term). T (occurs (e .left) t)) (sym (itself-is e q)) (eqb-refl (e .left))) g h x
+ground-kind deeper S e q f g h x = h
+ground-kind plain S e q f g h x =
+    ⊎-elim (λ k. k .1 x)
+    (none-related S (WithVariable (e .left)) (WithSome (e .right)) (λ k s w. f (w .0) (w .1) k s (w .2)) g) h
+
 -- where every variable of t is ground, x is ground after x = t
 pub ground-after : (S : Groups) (e : Equation) → ((y : ℕ) → T (occurs y (e .right)) → Ground S y)
     → Ground (After e S) (e .left)
-ground-after S e f g h x =
-    ⊎-elim (λ k. k .1 x)
-    (none-related S (WithVariable (e .left)) (WithSome (e .right)) (λ k s w. f (w .0) (w .1) k s (w .2)) g) h
+ground-after S e = ground-kind (kind e) S e refl
 
 -- ---- {x} and {y} are independent exactly when no group has both
 

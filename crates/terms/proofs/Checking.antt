@@ -85,6 +85,16 @@ unfolding checked
 checked-refuses l r (reads u) e = absurd (let z : _≡_ {A = ℕ} 0 1 = cc in omega arith)
 checked-refuses l r (refuses s) e = cc
 
+-- A term that passed its check is the one whole term.
+pub read-whole : (l : ℕ) (s : List ℕ) (t : Term) → check-term l s ≡ reads t → whole-term l s ≡ some t
+unfolding check-term term-or-6
+read-whole l s t e = go (all-named l s) (whole-term l s) e
+  where
+    go : (b : Bool) (o : Option Term) → cond b (term-or-6 o) (refuses R.Name) ≡ reads t → o ≡ some t
+    go true none e = absurd (let z : _≡_ {A = ℕ} 0 1 = cc in omega arith)
+    go true (some u) e = cc
+    go false o e = absurd (let z : _≡_ {A = ℕ} 0 1 = cc in omega arith)
+
 -- ---- Two terms
 
 module _ (l : ℕ) (ss ts : List ℕ) where

@@ -5,9 +5,11 @@ use tables::Answer;
 use tables::Refusal;
 ghost use mathlib.Core.Path.{_≡_};
 ghost use mathlib.Core.Bool.{true};
-ghost use Prim.Native.Nat.{_≤_};
+ghost use Prim.Native.Nat.{ℕ, _≤_};
+ghost use Rattle.model.specs.Equations as M;
 ghost use Rattle.terms.specs.Checks.{parsed, parsed-row, all-named, word-of, check-term, check-equation, checked};
 ghost use Rattle.terms.specs.Checks.{check-sides, check-answer};
+ghost use Rattle.terms.specs.EquationKinds.{kind-named, Counted, Told};
 
 // A token from here on, with the top bit 1, is a head; one below is the number of a variable.
 pub const FIRST_HEAD: u16 = 32768;
@@ -28,6 +30,20 @@ enum Reading {
 pub enum Checked {
     Variables(u32),
     Refused(Refusal),
+}
+
+// How the left variable x of an equation x = t stands in t: t is exactly x, holds x deeper, or does not hold it.
+pub enum Kind {
+    Itself,
+    Deeper,
+    Plain,
+}
+
+// An equation x = t as the procedures need it: the set of x alone, the set of t's variables, bit i - 1 for Xi, and the kind.
+pub struct Equation {
+    pub left: u32,
+    pub right: u32,
+    pub kind: Kind,
 }
 
 // Reads the term at the front of the tokens: a variable token alone, or a head and its row of arguments.
@@ -152,5 +168,30 @@ pub fn check_sides(l: u32, left: &[u16], right: &[u16]) -> Answer
             Checked::Refused(r) => Answer::Refused(r),
             Checked::Variables(_) => Answer::Accepted,
         },
+    }
+}
+
+// The kind of the equation of the set of x alone and the set of t's variables, where t has so many tokens: a term of one token
+// that holds x is x.
+fn kind_of(left: u32, right: u32, tokens: usize) -> Kind
+    ensures { λ r. ⌜ ((l : ℕ) (e : M.Equation) → Counted l left right tokens e → kind-named r ≡ M.kind e) ⌝ }
+{
+    if left & right == 0 {
+        return Kind::Plain;
+    }
+    if tokens == 1 {
+        return Kind::Itself;
+    }
+    Kind::Deeper
+}
+
+// The equation of these sets and so many tokens.
+pub fn equation_of(left: u32, right: u32, tokens: usize) -> Equation
+    ensures { λ r. ⌜ ((l : ℕ) (e : M.Equation) → Counted l left right tokens e → Told l r e) ⌝ }
+{
+    Equation {
+        left: left,
+        right: right,
+        kind: kind_of(left, right, tokens),
     }
 }

@@ -8,27 +8,29 @@ use native.Mathlib.Omega.{arith}
 use Rattle.model.specs.Growth.{_>>=_}
 use Rattle.model.specs.Equations.{Equation}
 use Rattle.model.specs.Walk.{Walked}
+use Rattle.terms.specs.declared.Equation as E
+use Rattle.terms.specs.EquationKinds.{Told}
 use Rattle.walks.specs.declared.Found.{Found}
 use Rattle.walks.specs.declared.Found.the-variants as F
-use Rattle.walks.specs.Cursors.{Rest, found, Told, Onward, Next, at-end, at-clash, at-equation, clash}
+use Rattle.walks.specs.Cursors.{Rest, found, Onward, Next, at-end, at-clash, at-equation, clash}
 
 -- ---- What an answer says of the walk
 
 -- The equation e is found, and the walk goes on with p.
-pub record Goes (l : ℕ) (left right : List ℕ) (i j : ℕ) (o : Walked) (x y a b : ℕ) : Type 0 where
+pub record Goes (l : ℕ) (left right : List ℕ) (i j : ℕ) (o : Walked) (q : E.Equation) (a b : ℕ) : Type 0 where
   pub e : Equation
   pub p : Walked
-  pub told : Told l x y e
+  pub told : Told l q e
   pub onward : Onward left right i j a b
   pub rest : Rest l left right a b p
   pub is : o ≡ found e p
 
 module _ {l : ℕ} {left right : List ℕ} {i j : ℕ} {o : Walked} {r : Found} (n : Next l left right i j o r) where
-  pub goes-on : {x y a b : ℕ} → r ≡ F.Equation x y a b → Goes l left right i j o x y a b
+  pub goes-on : {q : E.Equation} {a b : ℕ} → r ≡ F.Equation q a b → Goes l left right i j o q a b
   goes-on k = go (subst (Next l left right i j o) k n)
     where
-      go : {x y a b : ℕ} → Next l left right i j o (F.Equation x y a b) → Goes l left right i j o x y a b
-      go (at-equation e p t w s q) = record { e = e; p = p; told = t; onward = w; rest = s; is = q }
+      go : {q : E.Equation} {a b : ℕ} → Next l left right i j o (F.Equation q a b) → Goes l left right i j o q a b
+      go (at-equation e p t w s k) = record { e = e; p = p; told = t; onward = w; rest = s; is = k }
 
   pub clash-told : r ≡ F.Clash → o ≡ none
   clash-told k = go (subst (Next l left right i j o) k n)
@@ -64,25 +66,25 @@ unclashed none r e = absurd (let z : _≡_ {A = ℕ} 0 1 = cc in omega arith)
 unclashed (some es) r e = (es, refl, r)
 
 -- The equation e is the first of those that are left.
-pub record Listed (l : ℕ) (left right : List ℕ) (i j : ℕ) (es : List Equation) (x y a b : ℕ) : Type 0 where
+pub record Listed (l : ℕ) (left right : List ℕ) (i j : ℕ) (es : List Equation) (q : E.Equation) (a b : ℕ) : Type 0 where
   pub e : Equation
   pub others : List Equation
-  pub told : Told l x y e
+  pub told : Told l q e
   pub onward : Onward left right i j a b
   pub rest : Rest l left right a b (some others)
   pub is : es ≡ e ∷ others
 
 module _ {l : ℕ} {left right : List ℕ} {i j : ℕ} {es : List Equation} {r : Found}
     (n : Next l left right i j (some es) r) where
-  pub equation-told : {x y a b : ℕ} → r ≡ F.Equation x y a b → Listed l left right i j es x y a b
+  pub equation-told : {q : E.Equation} {a b : ℕ} → r ≡ F.Equation q a b → Listed l left right i j es q a b
   unfolding found _>>=_
-  equation-told {x} {y} {a} {b} k = let g = goes-on n k in go (g .e) (g .p) (g .told) (g .onward) (g .rest) (g .is)
+  equation-told {q} {a} {b} k = let g = goes-on n k in go (g .e) (g .p) (g .told) (g .onward) (g .rest) (g .is)
     where
-      go : (e : Equation) (p : Walked) → Told l x y e → Onward left right i j a b → Rest l left right a b p
+      go : (e : Equation) (p : Walked) → Told l q e → Onward left right i j a b → Rest l left right a b p
           → some es ≡ found e p
-          → Listed l left right i j es x y a b
-      go e none t w s q = absurd (let z : _≡_ {A = ℕ} 0 1 = cc in omega arith)
-      go e (some fs) t w s q = record { e = e; others = fs; told = t; onward = w; rest = s; is = cc }
+          → Listed l left right i j es q a b
+      go e none t w s k = absurd (let z : _≡_ {A = ℕ} 0 1 = cc in omega arith)
+      go e (some fs) t w s k = record { e = e; others = fs; told = t; onward = w; rest = s; is = cc }
 
   pub last-told : r ≡ F.End → es ≡ []
   last-told e = let k = end-told n e in cc

@@ -2,18 +2,19 @@
 use mathlib.Core.Path.{_≡_, refl, sym, ap, _∙_}
 use mathlib.Core.Bool.{Bool, true, false, cond}
 use mathlib.Core.List.{List, [], _∷_, append-nil}
-use mathlib.Core.Option.{Option, some, none}
+use mathlib.Core.Option.{some, none}
 use Prim.Native.Nat.{ℕ, suc, _+_, _^_, _≤_, _<_}
 use native.Mathlib.Omega.{arith}
 use lib.Dec.{leb}
 use lib.ListN.{length, getD}
 use Rattle.model.specs.Growth.{_>>=_}
 use Rattle.model.specs.Terms.{Term, nil, cons, arity}
-use Rattle.model.specs.Tokens.{Tokens, WritableRow, tokens, tokens-row, whole-term}
+use Rattle.model.specs.Tokens.{Tokens, WritableRow, tokens, tokens-row}
 use Rattle.model.specs.Walk.{Sides, Walked, both, walk, walk-row, walk-sides}
 use Rattle.model.proofs.Reader.{whole-exact}
 use Rattle.tables.specs.declared.Refusal.the-variants as R
-use Rattle.terms.specs.Checks.{all-named, Outcome, reads, refuses, if-read, term-or-6, check-term, most-tokens, check-sides}
+use Rattle.terms.specs.Checks.{Outcome, reads, refuses, if-read, check-term, most-tokens, check-sides}
+use Rattle.terms.proofs.Checking.{read-whole}
 use Rattle.walks.specs.Cursors.{Rest}
 
 -- The elements of a slice of 16-bit numbers are tokens.
@@ -21,16 +22,6 @@ pub all-tokens : (s : List ℕ) → ((i : ℕ) → getD s i 0 < 2 ^ 16) → Toke
 unfolding Tokens
 all-tokens [] h = tt
 all-tokens (t ∷ s) h = (h 0, all-tokens s (λ i. h (suc i)))
-
--- a term that passed its check is the one whole term
-read-whole : (l : ℕ) (s : List ℕ) (t : Term) → check-term l s ≡ reads t → whole-term l s ≡ some t
-unfolding check-term term-or-6
-read-whole l s t e = go (all-named l s) (whole-term l s) e
-  where
-    go : (b : Bool) (o : Option Term) → cond b (term-or-6 o) (refuses R.Name) ≡ reads t → o ≡ some t
-    go true none e = absurd (let z : _≡_ {A = ℕ} 0 1 = cc in omega arith)
-    go true (some u) e = cc
-    go false o e = absurd (let z : _≡_ {A = ℕ} 0 1 = cc in omega arith)
 
 -- both sides passed their checks
 both-read : (l : ℕ) (ss ts : List ℕ) (s : Sides) → check-sides l ss ts ≡ reads s

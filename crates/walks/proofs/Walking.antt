@@ -12,11 +12,14 @@ use lib.Seq.{drop-drop, drop-append-seam}
 use Rattle.model.specs.Growth.{_>>=_}
 use Rattle.model.specs.Terms.{Term, Terms, var, head, nil, cons, arity, variables}
 use Rattle.model.specs.Tokens.{first-head, arities, named, Writable, WritableRow, tokens, tokens-row}
+use Rattle.model.specs.Equations.{Equation}
 use Rattle.model.specs.Walk.{Walked, both, walk, walk-row}
 use Rattle.model.proofs.Tests.{true-of}
 use Rattle.words.specs.Words.{set-word}
 use Rattle.words.proofs.Positions.{one-shl}
+use Rattle.terms.specs.declared.Equation as E
 use Rattle.terms.specs.Checks.{word-of}
+use Rattle.terms.specs.EquationKinds.{Counted, Told}
 use Rattle.terms.proofs.Reader.{one-variable}
 use Rattle.walks.specs.declared.Found.{Found}
 use Rattle.walks.specs.declared.Found.the-variants as F
@@ -73,6 +76,7 @@ Passes s i e y = (l e′ w : ℕ) → Across l s i 1 e′ w → (e ≡ e′) × 
 -- they are those of that term
 record Stood (l : ℕ) (s : List ℕ) (i : ℕ) (t : Term) (r : List ℕ) (e y : ℕ) : Type 0 where
   set : y ≡ set-word (variables l t)
+  count : e - i ≡ length (tokens t)
   further : i < e
   inside : e ≤ length s
   rest : drop e s ≡ r
@@ -83,6 +87,7 @@ stood : (l : ℕ) (s : List ℕ) (i : ℕ) (t : Term) (r : List ℕ) (e y : ℕ)
 unfolding variables
 stood l s i t r e y few p w only = record {
   set = told .1 ∙ term-word l t w;
+  count = omega (arith, told .0);
   further = omega (arith, told .0, term-tokens t);
   inside = omega (arith, told .0, term-tokens t, length-append (tokens t) r, sym (ap length p) ∙ length-drop i s);
   rest =
@@ -93,11 +98,19 @@ stood l s i t r e y few p w only = record {
     told : (e ≡ i + length (tokens t)) × (y ≡ word-of (tokens t))
     told = only l (i + length (tokens t)) (word-of (tokens t)) (one-row l s i t r few p w)
 
+-- the bit of a variable in a word of 32
+abbrev pub bit-of : ℕ → ℕ
+bit-of x = (1 * 2 ^ (x - 1)) % 2 ^ 32
+
 -- the bit of a variable, as the code makes it, is the set of it alone
-bit-word : (l x : ℕ) → l ≤ 32 → T (named l x) → (1 * 2 ^ (x - 1)) % 2 ^ 32 ≡ set-word (variables l (var x))
+bit-word : (l x : ℕ) → l ≤ 32 → T (named l x) → bit-of x ≡ set-word (variables l (var x))
 unfolding variables
 bit-word l x few n =
     let h = true-of (named l x) n in one-shl (x - 1) 32 (bit-inside l x few h .1) ∙ sym (one-variable l x h)
+
+-- what tells the kind of the equation of these sets and so many tokens
+abbrev pub Tells : ℕ → ℕ → ℕ → E.Equation → Type 0
+Tells left right count q = (l : ℕ) (e : Equation) → Counted l left right count e → Told l q e
 
 -- ---- The step at two cursors
 
@@ -189,6 +202,13 @@ module _ {l : ℕ} {left right : List ℕ} {i j : ℕ} {o : Walked} (r : Rest l 
         let f = fronts in
         (l, _, _, one-row l right j (f .t) (tokens-row (f .ts)) (r .few) (f .right-is) (f .right-writable .0))
 
+    -- and ends further on
+    pub past-left : {e y : ℕ} → Passes left i e y → i ≤ e
+    past-left only = let t = term-left in omega (arith, only _ _ _ (t .3) .0, t .3 .end)
+
+    pub past-right : {e y : ℕ} → Passes right j e y → j ≤ e
+    past-right only = let t = term-right in omega (arith, only _ _ _ (t .3) .0, t .3 .end)
+
     -- a variable at a cursor has its bit in a word
     pub bit-left : getD left i 0 < first-head → (0 < getD left i 0) × (getD left i 0 - 1 < 32)
     bit-left v = left-bit (left-start (term-left .3)) (omega arith) v
@@ -212,30 +232,36 @@ module _ {l : ℕ} {left right : List ℕ} {i j : ℕ} {o : Walked} (r : Rest l 
     }
 
     -- a variable on the left, and what passes over the term across
-    pub next-left : (e y : ℕ) → getD left i 0 < first-head → Passes right j e y
-        → Next l left right i j o (F.Equation ((1 * 2 ^ (getD left i 0 - 1)) % 2 ^ 32) y (i + 1) e)
+    pub next-left : (e y : ℕ) (q : E.Equation) → getD left i 0 < first-head → Passes right j e y
+        → Tells (bit-of (getD left i 0)) y (e - j) q
+        → Next l left right i j o (F.Equation q (i + 1) e)
     unfolding tokens Writable walk both found _>>=_
-    next-left e y v only = let f = fronts in go f (f .s) (f .left-is) (f .left-writable .0) (f .walks)
+    next-left e y q v only tells = let f = fronts in go f (f .s) (f .left-is) (f .left-writable .0) (f .walks)
       where
         go : (f : Fronts l left right i j o) (s : Term) → drop i left ≡ tokens s ++ tokens-row (f .ss) → Writable l s
             → both (walk s (f .t)) (walk-row (f .ss) (f .ts)) ≡ o
-            → Next l left right i j o (F.Equation ((1 * 2 ^ (getD left i 0 - 1)) % 2 ^ 32) y (i + 1) e)
+            → Next l left right i j o (F.Equation q (i + 1) e)
         go f (head g us) p w k = absurd (omega (arith, first left i _ _ p .token))
         go f (var x) p w k =
             let at = first left i x (tokens-row (f .ss)) p in
             let st = stood l right j (f .t) (tokens-row (f .ts)) e y (r .few) (f .right-is) (f .right-writable .0) only in
-            rw (at .token)
-            (at-equation {a = i + 1} {b = e} (record { left = x; right = f .t }) (walk-row (f .ss) (f .ts))
-            (record { left = bit-word l x (r .few) (w .1); right = st .set })
+            at-equation {a = i + 1} {b = e} (record { left = x; right = f .t }) (walk-row (f .ss) (f .ts))
+            (tells l _ (record {
+              named = w .1;
+              left-set = rw (at .token) (bit-word l x (r .few) (w .1));
+              right-set = st .set;
+              count = st .count;
+            }))
             (record { further = omega (arith, st .further); inside = (omega (arith, at .inside), st .inside) })
-            (past f (at .rest) (st .rest)) (sym k))
+            (past f (at .rest) (st .rest)) (sym k)
 
     module _ (u : first-head ≤ getD left i 0) where
       -- a head on the left and a variable on the right
-      pub next-right : (e y : ℕ) → getD right j 0 < first-head → Passes left i e y
-          → Next l left right i j o (F.Equation ((1 * 2 ^ (getD right j 0 - 1)) % 2 ^ 32) y e (j + 1))
+      pub next-right : (e y : ℕ) (q : E.Equation) → getD right j 0 < first-head → Passes left i e y
+          → Tells (bit-of (getD right j 0)) y (e - i) q
+          → Next l left right i j o (F.Equation q e (j + 1))
       unfolding tokens Writable walk both found _>>=_
-      next-right e y v only =
+      next-right e y q v only tells =
           let f = fronts in
           go f (f .s) (f .t) (f .left-is) (f .right-is) (f .left-writable .0) (f .right-writable .0) (f .walks)
         where
@@ -244,17 +270,21 @@ module _ {l : ℕ} {left right : List ℕ} {i j : ℕ} {o : Walked} (r : Rest l 
               → Writable l s
               → Writable l t
               → both (walk s t) (walk-row (f .ss) (f .ts)) ≡ o
-              → Next l left right i j o (F.Equation ((1 * 2 ^ (getD right j 0 - 1)) % 2 ^ 32) y e (j + 1))
-          go f (var x) t p q z w k = absurd (omega (arith, first left i _ _ p .token, z .0))
-          go f (head g us) (head m vs) p q z w k = absurd (omega (arith, first right j _ _ q .token))
-          go f (head g us) (var x) p q z w k =
-              let at = first right j x (tokens-row (f .ts)) q in
+              → Next l left right i j o (F.Equation q e (j + 1))
+          go f (var x) t p d z w k = absurd (omega (arith, first left i _ _ p .token, z .0))
+          go f (head g us) (head m vs) p d z w k = absurd (omega (arith, first right j _ _ d .token))
+          go f (head g us) (var x) p d z w k =
+              let at = first right j x (tokens-row (f .ts)) d in
               let st = stood l left i (head g us) (tokens-row (f .ss)) e y (r .few) p z only in
-              rw (at .token)
-              (at-equation {a = e} {b = j + 1} (record { left = x; right = head g us }) (walk-row (f .ss) (f .ts))
-              (record { left = bit-word l x (r .few) (w .1); right = st .set })
+              at-equation {a = e} {b = j + 1} (record { left = x; right = head g us }) (walk-row (f .ss) (f .ts))
+              (tells l _ (record {
+                named = w .1;
+                left-set = rw (at .token) (bit-word l x (r .few) (w .1));
+                right-set = st .set;
+                count = st .count;
+              }))
               (record { further = omega (arith, st .further); inside = (st .inside, omega (arith, at .inside)) })
-              (past f (st .rest) (at .rest)) (sym k))
+              (past f (st .rest) (at .rest)) (sym k)
 
       -- two heads: equal ones go down, and others clash
       module _ (v : first-head ≤ getD right j 0) where

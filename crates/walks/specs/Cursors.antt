@@ -6,12 +6,13 @@ use mathlib.Core.Option.{some, none}
 use Prim.Native.Nat.{ℕ, _+_, _≤_, _<_}
 use lib.ListN.{length, drop}
 use Rattle.model.specs.Growth.{_>>=_}
-use Rattle.model.specs.Terms.{Terms, var, arity, variables}
+use Rattle.model.specs.Terms.{Terms, arity}
 use Rattle.model.specs.Tokens.{WritableRow, tokens-row}
 use Rattle.model.specs.Equations.{Equation}
 use Rattle.model.specs.Walk.{Walked, walk-row}
-use Rattle.words.specs.Words.{set-word}
+use Rattle.terms.specs.declared.Equation as E
 use Rattle.terms.specs.Checks.{word-of}
+use Rattle.terms.specs.EquationKinds.{Told}
 use Rattle.walks.specs.declared.Found.{Found}
 use Rattle.walks.specs.declared.Found.the-variants as F
 
@@ -45,11 +46,6 @@ found e o = do
   es ← o
   some (e ∷ es)
 
--- The sets of the two sides of an equation: its left variable alone, and the variables of its term.
-pub record Told (l x y : ℕ) (e : Equation) : Type 0 where
-  pub left : x ≡ set-word (variables l (var (e .left)))
-  pub right : y ≡ set-word (variables l (e .right))
-
 -- The cursors a and b are past i and j, and within the rows.
 pub record Onward (left right : List ℕ) (i j a b : ℕ) : Type 0 where
   pub further : i + j < a + b
@@ -59,10 +55,10 @@ pub record Onward (left right : List ℕ) (i j a b : ℕ) : Type 0 where
 pub data Next (l : ℕ) (left right : List ℕ) (i j : ℕ) (o : Walked) : Found → Type 0 where
   at-end : o ≡ some [] → Next l left right i j o F.End
   at-clash : o ≡ none → Next l left right i j o F.Clash
-  at-equation : {x y a b : ℕ} (e : Equation) (p : Walked) → Told l x y e → Onward left right i j a b
+  at-equation : {q : E.Equation} {a b : ℕ} (e : Equation) (p : Walked) → Told l q e → Onward left right i j a b
       → Rest l left right a b p
       → o ≡ found e p
-      → Next l left right i j o (F.Equation x y a b)
+      → Next l left right i j o (F.Equation q a b)
 
 -- The walk clashes.
 unfoldable pub clash : Walked → Bool

@@ -1,6 +1,7 @@
 // The walk of two terms on their rows of tokens. A term stands in prefix order, so two cursors do, with no recursion: equal
 // heads move both on by one, and a variable passes over the whole term across. Nothing of the walk is stored. Inner: not a
 // public call.
+use terms::Equation;
 ghost use mathlib.Core.Path.{_≡_};
 ghost use Prim.Native.Nat.{ℕ};
 ghost use Rattle.model.specs.Walk.{Walked};
@@ -12,15 +13,9 @@ struct Passed {
     set: u32,
 }
 
-// What the walk finds next: an equation, by the set of its left variable alone and the set of the variables of the term
-// across, with the cursors i and j to go on from; or a clash; or the end of both rows.
+// What the walk finds next: an equation, with the cursors i and j to go on from; or a clash; or the end of both rows.
 pub enum Found {
-    Equation {
-        left: u32,
-        right: u32,
-        i: usize,
-        j: usize,
-    },
+    Equation { found: Equation, i: usize, j: usize },
     Clash,
     End,
 }
@@ -62,8 +57,7 @@ pub fn next(left: &[u16], i: usize, right: &[u16], j: usize) -> Found
             let x = s as u32;
             let across = pass(right, b);
             return Found::Equation {
-                left: 1u32 << (x - 1),
-                right: across.set,
+                found: terms::equation_of(1u32 << (x - 1), across.set, across.end - b),
                 i: a + 1,
                 j: across.end,
             };
@@ -72,8 +66,7 @@ pub fn next(left: &[u16], i: usize, right: &[u16], j: usize) -> Found
             let x = t as u32;
             let across = pass(left, a);
             return Found::Equation {
-                left: 1u32 << (x - 1),
-                right: across.set,
+                found: terms::equation_of(1u32 << (x - 1), across.set, across.end - a),
                 i: across.end,
                 j: b + 1,
             };
@@ -96,12 +89,7 @@ pub fn clashes(left: &[u16], right: &[u16]) -> bool
     let mut at_right = 0;
     loop {
         match next(left, at_left, right, at_right) {
-            Found::Equation {
-                left: _,
-                right: _,
-                i,
-                j,
-            } => {
+            Found::Equation { found: _, i, j } => {
                 at_left = i;
                 at_right = j;
             }

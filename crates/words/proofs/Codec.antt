@@ -1,18 +1,18 @@
 -- The words of a string and the string of two words are each other's inverse; so are sets and their words. Assumes nothing.
 use mathlib.Core.Path.{_≡_, refl, sym, ap, ap₂, _∙_}
-use mathlib.Core.Bool.{Bool, true, false, false≢true, _||_, not, cond}
+use mathlib.Core.Bool.{Bool, true, false, false≢true, _&&_, _||_, not, cond}
 use mathlib.Core.List.{List, [], _∷_, map}
 use Prim.Native.Nat.{ℕ, zero, suc, _+_, _-_, _*_, _/_, _%_, _^_, _<_, suc-le-suc, zero-le}
 use native.Mathlib.Nat.{pow-suc, div-add-mod', div-one, zero-div, not-suc-le-zero, le-of-suc-le-suc}
 use native.Mathlib.Omega.{arith}
 use borrow.Author.Tests.{ne-eqb}
 use lib.Arith.{digits-div, digits-mod}
-use lib.Bits.{bitAnd, bitOr, and-block, or-block, and-shr, and-mod, and-zero-r, or-zero-l, or-zero-r}
+use lib.Bits.{bitAnd, bitOr, and-block, or-block, and-shr, and-mod, and-zero-l, and-zero-r, or-zero-l, or-zero-r}
 use lib.Count.{trailingZeros}
 use lib.Dec.{eqb, lit<}
 use lib.ListN.{length, getD, drop}
 use lib.Pow.{pow-pos, shr-shr}
-use Rattle.model.specs.Groups.{Bits, nonzero, or}
+use Rattle.model.specs.Groups.{Bits, nonzero, meets, or}
 use Rattle.model.specs.Strings.{Trit, t0, t1, t*, Trits, exactly, stars}
 use Rattle.model.proofs.Given.{Each}
 use Rattle.words.specs.declared.Entry.{Entry}
@@ -209,6 +209,24 @@ unfolding nonzero set-word
 nonzero-word [] = refl
 nonzero-word (true ∷ g) = sym (ap not (ne-eqb (set-word g * 2 + 1) 0 (λ e. omega arith)))
 nonzero-word (false ∷ g) = nonzero-word g ∙ sym (ap not (eqb-digit (set-word g) 0 0 0 (lit< tt) (lit< tt)))
+
+-- two words have no bit in common exactly where their sets do not meet
+pub apart-words : (g h : Bits) → eqb (bitAnd (set-word g) (set-word h)) 0 ≡ not (meets g h)
+unfolding meets set-word
+apart-words [] h = ap (λ (n : ℕ). eqb n 0) (and-zero-l (set-word h))
+apart-words (a ∷ g) [] = ap (λ (n : ℕ). eqb n 0) (and-zero-r (set-word (a ∷ g)))
+apart-words (a ∷ g) (b ∷ h) =
+    ap (λ (n : ℕ). eqb n 0) (and-block 1 (set-word g) (set-word h) (cond a 1 0) (cond b 1 0) (bit-lt a) (bit-lt b))
+    ∙ go a b (eqb-digit rest 0 0 0 (lit< tt) (lit< tt) ∙ apart-words g h)
+  where
+    rest : ℕ
+    rest = bitAnd (set-word g) (set-word h)
+
+    go : (a b : Bool) → eqb (rest * 2 + 0) 0 ≡ not (meets g h)
+        → eqb (rest * 2 + bitAnd (cond a 1 0) (cond b 1 0)) 0 ≡ not (a && b || meets g h)
+    go true true e = ne-eqb (rest * 2 + 1) 0 (λ z. omega arith)
+    go true false e = e
+    go false b e = ap (λ (n : ℕ). eqb (rest * 2 + n) 0) (and-zero-l (cond b 1 0)) ∙ e
 
 care-exactly : (g : Bits) → care-of (exactly g) ≡ 2 ^ length g - 1
 unfolding exactly care-of

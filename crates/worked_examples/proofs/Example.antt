@@ -16,16 +16,17 @@ use Rattle.model.specs.Groups.{Bits, Groups}
 use Rattle.model.specs.Strings.{t1, t*}
 use Rattle.model.specs.Growth.{_>>=_, Entries, Reduced}
 use Rattle.model.specs.Terms.{var, head, nil, arity, apply, apply-row}
-use Rattle.model.specs.Tables.{Side, positive, negative, Good, groups}
+use Rattle.model.specs.Tables.{Side, positive, negative, Good, groups, no-groups}
 use Rattle.model.specs.Walk.{Sides, both, walk, walk-row}
-use Rattle.model.specs.Unification.{AfterWalk, no-groups, walk-entries, unification}
+use Rattle.model.specs.Unification.{AfterWalk, walk-entries, unification}
 use Rattle.model.specs.Bindings.{Bindings, bound, as-bound, apply-all, Describes}
 use Rattle.model.specs.Calls.{Step, unified, Steps, Walks, Event, accepted, refused, Reaches}
+use Rattle.model.proofs.OccursCheck.{plain-other}
 use Rattle.model.proofs.Computing.{procedures}
 use Rattle.model.proofs.Demand2.{convert-good}
 use Rattle.model.proofs.Unification.{walk-exact}
 use Rattle.model.proofs.Example.{gives, gives-admitted, f-of, g-of, first, second, sides-of, together, start, start-table}
-use Rattle.model.proofs.Example.{start-described, end, end-table}
+use Rattle.model.proofs.Example.{start-described, plains, end, end-table}
 use Rattle.words.specs.Words.{set}
 use Rattle.words.proofs.Codec.{sets-long}
 use Rattle.tables.specs.declared.Table.{Table}
@@ -124,7 +125,7 @@ middle = first .right ∷ var 2 ∷ var 3 ∷ []
 -- after it the equation is in force: the identity is an admitted unifier
 again : Step middle first middle
 unfolding bound as-bound apply apply-row apply-all
-again = unified var (record {
+again = unified (plain-other (plains .0)) var (record {
   unifies = refl;
   touched = λ v k. absurd (k refl);
   brought = λ v b. absurd (b .1 refl);
@@ -135,8 +136,8 @@ again = unified var (record {
 pub calls-reach : Reaches start (fed []) end
 unfolding bound as-bound apply apply-row apply-all _>>=_ both walk walk-row arity Steps Walks Reaches
 calls-reach =
-    let one = unified (gives 1 (first .right)) (gives-admitted 1 (first .right) refl refl) in
-    let two = unified (gives 2 (second .right)) (gives-admitted 2 (second .right) refl refl) in
+    let one = unified (plain-other (plains .0)) (gives 1 (first .right)) (gives-admitted 1 (first .right) refl refl) in
+    let two = unified (plain-other (plains .1)) (gives 2 (second .right)) (gives-admitted 2 (second .right) refl refl) in
     (middle, (middle, one, refl), (end, (middle, again, (end, two, refl)), refl))
 
 -- From the call that clashes no bindings go on.

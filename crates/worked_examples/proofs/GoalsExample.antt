@@ -18,7 +18,8 @@ use Rattle.model.specs.Bindings.{Bindings, bound, as-bound, apply-all, Describe
 use Rattle.model.specs.Goals.{Occurs, ShareNone, NoVariable}
 use Rattle.model.specs.Calls.{Event, accepted, Reaches}
 use Rattle.model.specs.Marked.{f-of, a-constant, table-c, table-d, table-e}
-use Rattle.model.proofs.Computing.{procedures}
+use Rattle.model.proofs.OccursCheck.{plain-other}
+use Rattle.model.proofs.Computing.{equations, procedures}
 use Rattle.model.proofs.Demand2.{convert-good}
 use Rattle.model.proofs.Demand3.{describes-more, with-variable, equation-reaches}
 use Rattle.model.proofs.Example.{gives, gives-admitted, start, start-table, start-good, start-described}
@@ -132,12 +133,12 @@ last = f-of 2 ∷ var 2 ∷ a-constant ∷ []
 
 -- The model reaches them, by an admitted unifier at each equation.
 pub last-reached : Reaches start both last
-unfolding bound as-bound apply apply-row apply-all Reaches
+unfolding bound as-bound apply apply-row apply-all Reaches equations
 last-reached =
-    equation-reaches start last 1 (f-of 2) (accepted a-sides ∷ []) .1 (
+    equation-reaches start last 1 (f-of 2) (accepted a-sides ∷ []) (plain-other refl) .1 (
       gives 1 (f-of 2),
       gives-admitted 1 (f-of 2) refl refl,
-      equation-reaches (f-of 2 ∷ var 2 ∷ var 3 ∷ []) last 3 a-constant [] .1
+      equation-reaches (f-of 2 ∷ var 2 ∷ var 3 ∷ []) last 3 a-constant [] (plain-other refl) .1
           (gives 3 a-constant, gives-admitted 3 a-constant refl refl, refl),
     )
 

@@ -4,3 +4,4 @@ pub mod NegativeExample
 pub mod RunExample
 pub mod RunningExample
 pub mod GoalsExample
+pub mod SelfExample

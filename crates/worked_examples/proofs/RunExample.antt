@@ -29,7 +29,8 @@ use Rattle.model.specs.Bindings.{Bindings, Touches, Describes, bound, as-bound,
 use Rattle.model.specs.Calls.{Event, accepted, refused, Reaches}
 use Rattle.model.specs.Marked.{a-constant}
 use Rattle.model.proofs.Tests.{and-first, and-second}
-use Rattle.model.proofs.Computing.{strings, growth, procedures}
+use Rattle.model.proofs.OccursCheck.{plain-other}
+use Rattle.model.proofs.Computing.{strings, growth, equations, procedures}
 use Rattle.model.proofs.Demand3.{equation-reaches}
 use Rattle.model.proofs.Example.{gives, gives-admitted, gives-touches, f-of, g-of, sides-of}
 use Rattle.tables.specs.declared.Refusal.the-variants as R
@@ -189,7 +190,7 @@ strings-many = omega arith
 
 -- The second equation needs entry 257.
 second-gives : equation positive 16 second before-full ≡ none
-unfolding equation equation-of-sets relevant-strings
+unfolding equations equation-of-sets relevant-strings
 second-gives =
     equation-full falling rising 2048 0 (variables 16 (var 16)) (variables 16 (second .right)) before-full strings-spread
     strings-many
@@ -264,9 +265,9 @@ end = ground ++ (g-of (var 16) ∷ var 16 ∷ [])
 
 -- The model reaches them by an admitted unifier of the one equation that was applied.
 pub full-reach : Reaches start (run-events 16 1 (first-written ∷ second-written ∷ [])) end
-unfolding run-events written-sides tokens-read term-read bound as-bound apply apply-row apply-all Reaches
+unfolding run-events written-sides tokens-read term-read bound as-bound apply apply-row apply-all Reaches equations
 full-reach =
-    let u = g-of (var 16) in equation-reaches start end 15 u [] .1 (gives 15 u, gives-admitted 15 u refl refl, refl)
+    let u = g-of (var 16) in equation-reaches start end 15 u [] (plain-other refl) .1 (gives 15 u, gives-admitted 15 u refl refl, refl)
 
 -- This unifier is not trivial: it touches the run-time variable of X15.
 pub full-touches : Touches (gives 15 (g-of (var 16))) 15
@@ -351,13 +352,13 @@ calls-bindings = ground ++ (g-of a-constant ∷ a-constant ∷ [])
 
 -- The model reaches them by an admitted unifier at each accepted call.
 pub calls-reach : Reaches start calls-events calls-bindings
-unfolding bound as-bound apply apply-row apply-all Reaches
+unfolding bound as-bound apply apply-row apply-all Reaches equations
 calls-reach =
     let u = g-of (var 16) in
-    equation-reaches start calls-bindings 15 u (refused ∷ accepted (sides-of third) ∷ []) .1 (
+    equation-reaches start calls-bindings 15 u (refused ∷ accepted (sides-of third) ∷ []) (plain-other refl) .1 (
       gives 15 u,
       gives-admitted 15 u refl refl,
-      equation-reaches end calls-bindings 16 a-constant [] .1
+      equation-reaches end calls-bindings 16 a-constant [] (plain-other refl) .1
           (gives 16 a-constant, gives-admitted 16 a-constant refl refl, refl),
     )
 

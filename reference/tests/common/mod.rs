@@ -78,8 +78,8 @@ pub fn some_table(random: &mut Random, l: u32, most: usize) -> Table {
     random.table(l, count)
 }
 
-/// The tokens of a short term over variables 1 to l.
-pub fn some_term(random: &mut Random, l: u32) -> Vec<u16> {
+/// An equation over variables 1 to l with a short term.
+pub fn some_equation(random: &mut Random, l: u32) -> Equation {
     let size = random.within(1, 12);
-    random.term_of(l, size)
+    random.equation_of(l, size)
 }

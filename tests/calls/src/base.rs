@@ -2,7 +2,7 @@
 
 use crate::case::{Call, Case};
 use reference::forms::bytes_of;
-use reference::{Table, TwoTerms};
+use reference::{Equation, Table, TwoTerms};
 use support::library::{RawTable, State};
 use support::tables::{form, packed, Size, LONGEST};
 use support::{Equations, Random, TermEquations};
@@ -33,7 +33,7 @@ pub fn short_base(call: Call, negative: bool, l: u32, random: &mut Random) -> Ca
         Call::Join | Call::Equal | Call::Smaller => case.second = form(&random.short_table(l)),
         Call::Equation | Call::Step => {
             let size = random.within(1, 8);
-            case.second = bytes_of(random.term_of(l, size));
+            give_equation(&mut case, random.equation_of(l, size));
         }
         call if call.takes_two_terms() => {
             let (left, right) = (random.within(1, 8), random.within(1, 8));
@@ -42,9 +42,8 @@ pub fn short_base(call: Call, negative: bool, l: u32, random: &mut Random) -> Ca
         Call::Run => {
             let mut equations = Equations::default();
             for _ in 0..random.within(1, 4) {
-                let left = random.variable(l);
                 let size = random.within(1, 5);
-                equations.push(left, &random.term_of(l, size));
+                equations.add(&random.equation_of(l, size));
             }
             case.second = equations.bytes();
         }
@@ -60,6 +59,12 @@ pub fn short_base(call: Call, negative: bool, l: u32, random: &mut Random) -> Ca
         _ => {}
     }
     case
+}
+
+/// Gives a call an equation.
+pub fn give_equation(case: &mut Case, equation: Equation) {
+    case.word = u32::from(equation.left);
+    case.second = bytes_of(equation.term);
 }
 
 /// Gives a call the bytes of two terms.
@@ -81,8 +86,7 @@ pub fn base_on(call: Call, negative: bool, size: Size, table: &Table, random: &m
     match call {
         Call::Convert => give_groups(&mut case, l, table.entries.len(), random),
         Call::Equation | Call::Step => {
-            case.word = u32::from(random.variable(l));
-            case.second = bytes_of(random.term(l));
+            give_equation(&mut case, random.equation(l));
         }
         call if call.takes_two_terms() => {
             let terms = random.two_terms(l);

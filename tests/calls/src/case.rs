@@ -105,6 +105,15 @@ impl Call {
         matches!(self, Call::Unify | Call::UnifyStep)
     }
 
+    /// Whether the call applies equations.
+    pub fn takes_equations(self) -> bool {
+        self.takes_two_terms()
+            || matches!(
+                self,
+                Call::Equation | Call::Step | Call::Run | Call::UnifyRun
+            )
+    }
+
     /// Whether the call is given a state.
     pub fn takes_state(self) -> bool {
         matches!(self, Call::Step | Call::UnifyStep | Call::Write)

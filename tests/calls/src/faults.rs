@@ -218,7 +218,7 @@ pub fn damaged(
 }
 
 /// Puts one fault into a call whose table had l variables before any fault.
-fn put(fault: Fault, l: u32, case: &mut Case, random: &mut Random) {
+pub fn put(fault: Fault, l: u32, case: &mut Case, random: &mut Random) {
     match fault {
         Full => {}
         Unlike => make_unlike(l, case, random),

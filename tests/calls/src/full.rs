@@ -1,10 +1,10 @@
 //! Calls that need entry 257.
 
-use crate::base::{any_state, base_on, give_terms};
+use crate::base::{any_state, base_on, give_equation, give_terms};
 use crate::case::{Call, Case};
 use crate::expected::expected;
 use reference::entry::low_bits;
-use reference::forms::{bytes_of, words_of};
+use reference::forms::words_of;
 use reference::terms::head;
 use reference::{Entry, Table, TwoTerms, ENTRIES};
 use std::collections::{BTreeMap, BTreeSet};
@@ -110,7 +110,7 @@ fn on_strings(
     let mut case = base_on(call, negative, Size::Light, &table, random);
     if call == Call::Equation {
         let size = random.within(3, 12);
-        case.second = bytes_of(random.term_of(l, size));
+        give_equation(&mut case, random.equation_of(l, size));
     }
     case
 }
@@ -203,8 +203,7 @@ pub fn run_of(equation: &Case, random: &mut Random) -> Case {
         let mut equations = Equations::default();
         let some = |count: usize, equations: &mut Equations, random: &mut Random| {
             for _ in 0..count {
-                let (left, term) = (random.variable(l), random.term_of(l, 2));
-                equations.push(left, &term);
+                equations.add(&random.equation_of(l, 2));
             }
         };
         some(earlier, &mut equations, random);

@@ -2,10 +2,14 @@
 
 use crate::case::{Call, Case, Outcome, Part};
 use crate::faults::Fault;
-use reference::forms::words_of;
+use crate::seen::Seen;
+use reference::forms::{read_equations, read_two_terms, words_of};
+use reference::terms::kind;
 use reference::unification::{walk, Clash, Term};
+use reference::{Equation, Kind, TwoTerms};
 use std::collections::BTreeMap;
 use support::answers::{Answers, NUMBERS};
+use support::{Checked, Kinds};
 
 /// A call, and whether its side is the negative one.
 type Row = (Call, bool);
@@ -17,6 +21,8 @@ struct Counts {
     /// Questions: yes and no. The two-buffer call: part of the first, of the second, empty. Two
     /// terms set equal: a clash, no equation, some.
     answers: [usize; 3],
+    /// The equations of accepted calls, those that walks find among them.
+    kinds: Kinds,
 }
 
 /// All counts of a run of this program.
@@ -26,6 +32,8 @@ pub struct Ledger {
     /// How often two faults stood together in a row, and which of their numbers was answered.
     pairs: BTreeMap<(Row, Fault, Fault), usize>,
     numbers: BTreeMap<(u32, u32), [usize; 2]>,
+    /// What came of equations whose term holds their left variable.
+    seen: BTreeMap<Seen, usize>,
     total: usize,
 }
 
@@ -82,6 +90,10 @@ impl Ledger {
             .entry((case.call, case.is_negative()))
             .or_default();
         counts.numbers.enter(outcome.number);
+        if outcome.number == 0 {
+            let applied = applied(case).into_iter();
+            applied.for_each(|kind| counts.kinds.enter(kind));
+        }
         match outcome.part {
             Part::None if case.call.asks() && outcome.number == 0 => {
                 counts.answers[usize::from(outcome.out[0] == 0)] += 1;
@@ -106,6 +118,32 @@ impl Ledger {
         let (a, b) = (faults.0.number(), faults.1.number());
         let counts = self.numbers.entry((a.min(b), a.max(b))).or_default();
         counts[usize::from(answered != a.min(b))] += 1;
+    }
+
+    /// Counts what came of an equation whose term holds its left variable.
+    pub fn note(&mut self, seen: Seen) {
+        *self.seen.entry(seen).or_default() += 1;
+    }
+
+    /// Sees that each call came with each kind of equation: so far they were only drawn.
+    pub fn drew_each_kind(&self) -> Checked<()> {
+        let complaints = self.kind_complaints();
+        match complaints.is_empty() {
+            true => Ok(()),
+            false => Err(complaints.join("\n")),
+        }
+    }
+
+    /// Which kinds of equations a call never came with.
+    fn kind_complaints(&self) -> Vec<String> {
+        let none = Kinds::default();
+        let complaints = |row: Row| {
+            let kinds = self.rows.get(&row).map_or(none, |counts| counts.kinds);
+            let unseen = kinds.complaints().into_iter();
+            unseen.map(move |what| format!("{}: {what}", title(row)))
+        };
+        let rows = rows().filter(|(call, _)| call.takes_equations());
+        rows.flat_map(complaints).collect()
     }
 
     /// The calls counted.
@@ -136,9 +174,17 @@ impl Ledger {
                 title(*row)
             );
         }
+        let equations = self.rows.iter();
+        for (row, counts) in equations.filter(|((call, _), _)| call.takes_equations()) {
+            println!("{:<15}{}", title(*row), counts.kinds);
+        }
         if let Some(counts) = self.rows.get(&(Call::Smaller, false)) {
             let [first, second, empty] = counts.answers;
             println!("smaller        {first:>8} positive {second:>8} negative {empty:>8} empty");
+        }
+        for seen in Seen::ALL {
+            let count = self.seen.get(&seen).unwrap_or(&0);
+            println!("{:<40}{count:>8}", seen.name());
         }
         self.print_pairs();
     }
@@ -179,7 +225,36 @@ impl Ledger {
                 complaints.push(format!("{}: an answer was never given", title(row)));
             }
         }
+        let unseen = Seen::ALL
+            .iter()
+            .filter(|seen| !self.seen.contains_key(seen));
+        complaints.extend(unseen.map(|seen| format!("never came: {}", seen.name())));
         complaints
+    }
+}
+
+/// The kinds of the equations that an accepted call applies, in order; none of a walk that clashes.
+fn applied(case: &Case) -> Vec<Kind> {
+    let found = |left: &[u16], right: &[u16]| {
+        let (left, right) = (Term::of(left), Term::of(right));
+        let found = walk(&left, &right).unwrap_or_default();
+        let kind = |(x, term): &(u16, &Term)| term.kind(u32::from(*x));
+        found.iter().map(kind).collect::<Vec<Kind>>()
+    };
+    match case.call {
+        Call::Equation | Call::Step => vec![kind(case.word, &words_of(&case.second))],
+        Call::Unify | Call::UnifyStep => found(&words_of(&case.second), &words_of(&case.third)),
+        Call::Run => {
+            let equations = read_equations(case.l(), &case.second).unwrap_or_default();
+            let kind = |one: &Equation| kind(u32::from(one.left), &one.term);
+            equations.iter().map(kind).collect()
+        }
+        Call::UnifyRun => {
+            let equations = read_two_terms(case.l(), &case.second).unwrap_or_default();
+            let kinds = |one: &TwoTerms| found(&one.left, &one.right);
+            equations.iter().flat_map(kinds).collect()
+        }
+        _ => vec![],
     }
 }
 

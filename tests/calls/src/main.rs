@@ -1,9 +1,10 @@
 //! Compares every exported call of libanalyser.a with the plain implementation: random and
 //! damaged input, guard bytes around all that is lent, outputs of every length, sequences of
-//! calls. Prints how often each number was answered by each call; the last line is
-//! `N calls compared, 0 differences`. With `--cases` it writes some of the cases with their
-//! expected outcomes to standard output, for tests/fences.c.
+//! calls. Prints how often each number was answered by each call, and how often equations of each
+//! kind came; the last line is `N calls compared, 0 differences`. With `--cases` it writes some of
+//! the cases with their expected outcomes to standard output, for tests/fences.c.
 
+mod applying;
 mod archive;
 mod base;
 mod case;
@@ -19,6 +20,9 @@ mod noise;
 mod packed;
 mod packed_faults;
 mod pairs;
+mod seen;
+mod self_equations;
+mod self_walks;
 mod sequences;
 mod stream;
 mod term_faults;
@@ -75,5 +79,8 @@ fn check_all(tester: &mut Tester) -> Checked<()> {
     widths::check(tester)?;
     walks::check(tester, &full)?;
     two_ways::check(tester)?;
-    sequences::check(tester, &full)
+    sequences::check(tester, &full)?;
+    tester.ledger.drew_each_kind()?;
+    self_equations::check(tester)?;
+    self_walks::check(tester, &full)
 }

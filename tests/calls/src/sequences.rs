@@ -1,12 +1,12 @@
 //! Sequences of calls: what one call leaves is what the next one gets.
 
-use crate::base::{base_on, give_terms};
+use crate::base::{base_on, give_equation, give_terms};
 use crate::case::{Call, Case, Outcome};
 use crate::faults::Fault;
 use crate::full::Full;
 use crate::tester::Tester;
 use crate::{packed, term_faults, word_faults};
-use reference::forms::{bytes_of, table_length};
+use reference::forms::table_length;
 use reference::{ENTRIES, VARIABLES};
 use support::library::State;
 use support::tables::{form, table_of, Size, LONGEST};
@@ -76,9 +76,8 @@ fn step(
     let mut case = Case::new(Call::Step);
     let l = state.table.l.clamp(1, VARIABLES);
     case.state = Some(Box::new(*state));
-    case.word = u32::from(random.variable(l));
     let size = random.within(1, 6);
-    case.second = bytes_of(random.term_of(l, size));
+    give_equation(&mut case, random.equation_of(l, size));
     for &fault in faults {
         match fault {
             Fault::Variable => word_faults::put(fault, l, &mut case, random),

@@ -9,6 +9,7 @@ use crate::tester::Tester;
 use reference::forms::{bytes_of, words_of};
 use reference::terms::is_head;
 use reference::unification::{walk, Term};
+use reference::Equation;
 use support::library::State;
 use support::tables::{Size, LONGEST};
 use support::{Checked, Equations, Random, TermEquations};
@@ -44,7 +45,7 @@ fn one_by_one(tester: &mut Tester, negative: bool, size: Size, random: &mut Rand
 }
 
 /// Each equation on the bytes that the last one wrote.
-fn by_bytes(
+pub fn by_bytes(
     tester: &mut Tester,
     case: &Case,
     found: &[(u16, Vec<u16>)],
@@ -71,7 +72,7 @@ fn by_bytes(
 }
 
 /// The same in a running analysis, which counts these equations one by one.
-fn by_steps(tester: &mut Tester, case: &Case, found: &[(u16, Vec<u16>)]) -> Checked<()> {
+pub fn by_steps(tester: &mut Tester, case: &Case, found: &[(u16, Vec<u16>)]) -> Checked<()> {
     let all = tester.check(case)?;
     let mut state = case.state.clone();
     for (x, term) in found {
@@ -106,12 +107,12 @@ fn both_forms(tester: &mut Tester, negative: bool, size: Size, random: &mut Rand
     let l = run.l();
     let (mut old, mut new) = (Equations::default(), TermEquations::default());
     for _ in 0..random.within(1, 4) {
-        let (x, tokens) = (random.variable(l), random.within(1, 5));
-        let term = random.term_of(l, tokens);
-        old.push(x, &term);
+        let tokens = random.within(1, 5);
+        let Equation { left, term } = random.equation_of(l, tokens);
+        old.push(left, &term);
         match random.below(3) {
-            0 if is_head(term[0]) => new.push(&term, &[x]),
-            _ => new.push(&[x], &term),
+            0 if is_head(term[0]) => new.push(&term, &[left]),
+            _ => new.push(&[left], &term),
         }
     }
     run.second = old.bytes();

@@ -20,7 +20,7 @@ pub fn check(tester: &mut Tester) -> Checked<usize> {
         let input = draw(&mut random).bytes;
         let plain = report(&input);
         tester.check(&format!("drawn input {number}"), &input, &plain.text)?;
-        tally.enter(&plain);
+        tally.enter(&input, &plain);
     }
     tally.print();
     match tally.complaints() {

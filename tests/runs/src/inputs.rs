@@ -50,7 +50,7 @@ pub fn crowded_input(random: &mut Random) -> Input {
         equations.push(random.variable(l), &[head(2, 0)]);
     }
     let size = random.within(3, 12);
-    equations.push(random.variable(l), &random.term_of(l, size));
+    equations.add(&random.equation_of(l, size));
     let count = random.below(3);
     add_equations(l, count, 2, &mut equations, random);
     Input::new(&Table { l, entries }, &equations)
@@ -66,7 +66,7 @@ pub fn long_input(random: &mut Random) -> Input {
     let any = random.within(1, 1500);
     let tokens = random.pick(&[count, count, any, TOKENS, TOKENS + 1, TOKENS + 2]);
     let last = tokens.saturating_sub(equations.tokens.len()).max(1);
-    equations.push(random.variable(l), &random.term_of(l, last));
+    equations.add(&random.equation_of(l, last));
     Input::new(&random.table(l, n), &equations)
 }
 
@@ -80,6 +80,6 @@ fn add_equations(
 ) {
     for _ in 0..count {
         let size = random.within(1, most);
-        equations.push(random.variable(l), &random.term_of(l, size));
+        equations.add(&random.equation_of(l, size));
     }
 }

@@ -1,8 +1,10 @@
 //! What was answered how often.
 
+use reference::forms::{read_equations, read_front};
 use reference::report::Report;
+use reference::terms::kind;
 use reference::VARIABLES;
-use support::Answers;
+use support::{Answers, Kinds};
 
 /// The words of 01 for the refusals 1 to 8.
 const WORDS: [&str; 8] = [
@@ -18,14 +20,16 @@ pub struct Tally {
     later: usize,
     /// Accepted runs with at least one equation.
     applied: usize,
+    /// The equations of accepted runs.
+    kinds: Kinds,
     /// The widths of accepted runs, bit l-1 for l.
     widths: u32,
     longest: usize,
 }
 
 impl Tally {
-    /// Counts one report.
-    pub fn enter(&mut self, report: &Report) {
+    /// Counts one report of an input.
+    pub fn enter(&mut self, input: &[u8], report: &Report) {
         let outcome = &report.outcome;
         self.numbers.enter(outcome.code);
         let applied = usize::from(outcome.applied > 0);
@@ -33,11 +37,20 @@ impl Tally {
             0 => {
                 self.applied += applied;
                 self.widths |= 1 << (outcome.table.l - 1);
+                self.enter_kinds(input);
             }
             8 => self.later += applied,
             _ => {}
         }
         self.longest = self.longest.max(report.text.len());
+    }
+
+    /// Counts the equations of an accepted input.
+    fn enter_kinds(&mut self, input: &[u8]) {
+        let read = read_front(input).and_then(|(table, rest)| read_equations(table.l, rest));
+        for equation in read.unwrap_or_default() {
+            self.kinds.enter(kind(equation.left.into(), &equation.term));
+        }
     }
 
     /// Prints the counts.
@@ -60,6 +73,7 @@ impl Tally {
             };
             println!("refused {number} {word:<8}{count:>5}{more}");
         }
+        println!("equations    {}", self.kinds);
         println!("longest text      {:>5} bytes", self.longest);
     }
 
@@ -72,6 +86,7 @@ impl Tally {
         if self.applied == 0 || self.later == 0 {
             complaints.push("no equation was accepted, or none before a full one".into());
         }
+        complaints.extend(self.kinds.complaints());
         complaints
     }
 }

@@ -3,6 +3,7 @@
 use crate::random::Random;
 use reference::forms::{bytes_of, words_of, EQUATIONS};
 use reference::terms::{head, is_head, TOKENS};
+use reference::Equation;
 
 /// The numbers of an equations' form.
 #[derive(Clone, Default)]
@@ -38,6 +39,11 @@ impl Equations {
         self.tokens.extend_from_slice(term);
     }
 
+    /// The same of an equation.
+    pub fn add(&mut self, equation: &Equation) {
+        self.push(equation.left, &equation.term);
+    }
+
     /// The tokens of one equation, as their places among all tokens.
     pub fn term(&self, k: usize) -> std::ops::Range<usize> {
         let start = self.counts[..k].iter().map(|&count| usize::from(count));
@@ -52,14 +58,44 @@ impl Random {
         self.within(1, l as usize) as u16
     }
 
-    /// A term, mostly a short one.
-    pub fn term(&mut self, l: u32) -> Vec<u16> {
+    /// An equation, its term mostly a short one.
+    pub fn equation(&mut self, l: u32) -> Equation {
         let size = match self.below(100) {
             0 => self.pick(&[TOKENS, TOKENS - 1]),
             1..=9 => self.within(16, 200),
             _ => self.within(1, 8),
         };
-        self.term_of(l, size)
+        self.equation_of(l, size)
+    }
+
+    /// An equation whose term has so many tokens.
+    pub fn equation_of(&mut self, l: u32, size: usize) -> Equation {
+        let left = self.variable(l);
+        let term = self.term_across(l, left, size);
+        Equation { left, term }
+    }
+
+    /// A term of so many tokens across from a variable. Few hold it deeper: then no groups are left,
+    /// and what follows has nothing to do.
+    pub fn term_across(&mut self, l: u32, x: u16, size: usize) -> Vec<u16> {
+        let mut term = self.term_of(l, size);
+        if size > 1 && !self.percent(10) {
+            for token in term.iter_mut().filter(|token| **token == x) {
+                *token = self.other_than(l, x);
+            }
+        }
+        term
+    }
+
+    /// Another variable, or a constant where there is no other.
+    fn other_than(&mut self, l: u32, x: u16) -> u16 {
+        match l {
+            1 => head(2, 0),
+            _ => {
+                let other = self.variable(l - 1);
+                other + u16::from(other >= x)
+            }
+        }
     }
 
     /// A term of so many tokens, up to some thousands: it may nest as deep as it is long.
@@ -110,15 +146,12 @@ impl Random {
             _ => self.below(6),
         };
         for _ in 0..e {
-            let left = self.variable(l);
             let size = self.within(1, 5);
-            let term = self.term_of(l, size);
-            equations.push(left, &term);
+            equations.add(&self.equation_of(l, size));
         }
         if e < EQUATIONS && self.percent(5) {
-            let term = self.term_of(l, TOKENS - equations.tokens.len());
-            let left = self.variable(l);
-            equations.push(left, &term);
+            let size = TOKENS - equations.tokens.len();
+            equations.add(&self.equation_of(l, size));
         }
         equations
     }

@@ -2,6 +2,7 @@
 
 pub mod answers;
 pub mod equations;
+pub mod kinds;
 #[cfg(feature = "library")]
 pub mod library;
 pub mod random;
@@ -10,6 +11,7 @@ pub mod two_terms;
 
 pub use answers::Answers;
 pub use equations::Equations;
+pub use kinds::Kinds;
 pub use random::Random;
 pub use two_terms::TermEquations;
 

@@ -154,7 +154,7 @@ impl Random {
         ] {
             match size {
                 1 => term.push(token),
-                _ => term.extend(self.term_of(pair.l, size)),
+                _ => term.extend(self.term_across(pair.l, x, size)),
             }
         }
     }

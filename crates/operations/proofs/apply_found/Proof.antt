@@ -18,19 +18,19 @@ use Rattle.operations.proofs.apply_found.Statement.{statement}
 use Rattle.operations.proofs.apply_found.Tie as tie
 
 abbrev Inv-loop : tie.InvT-loop
-Inv-loop side left right t l n₀ given₀ at-left₀ at-right₀ n given at-left at-right =
+Inv-loop side left right t l n₀ list₀ at-left₀ at-right₀ n list at-left at-right =
     (n ≤ 256) × Kept (λ es. Rest (t .l) left right 0 0 (some es))
-    (λ es. SoFar (side-of side) (t .l) (entries-of t) given n left right at-left at-right es)
+    (λ es. SoFar (side-of side) (t .l) (entries-of t) list n left right at-left at-right es)
 
 abbrev μ-loop : tie.MeasureT-loop
-μ-loop side left right t l n₀ given₀ at-left₀ at-right₀ n given at-left at-right =
+μ-loop side left right t l n₀ list₀ at-left₀ at-right₀ n list at-left at-right =
     length left + length right - (at-left + at-right)
 
 -- where the table's arrays are lent, and the start
-abbrev lent : tie.After-given Inv-loop μ-loop → tie.After-t Inv-loop μ-loop
+abbrev lent : tie.After-list Inv-loop μ-loop → tie.After-t Inv-loop μ-loop
 lent c = c .before .before .before
 
-abbrev start : tie.After-given Inv-loop μ-loop → tie.Start Inv-loop μ-loop
+abbrev start : tie.After-list Inv-loop μ-loop → tie.Start Inv-loop μ-loop
 start c = lent c .before .before .before
 
 load-requires : tie.Need-load-requires Inv-loop μ-loop
@@ -46,13 +46,13 @@ loop-holds c =
 next-requires : tie.Need-next-requires Inv-loop μ-loop
 next-requires c κs = let k = c .loop .inv .1 .0 in (_, some (k .1 .others), k .1 .rest)
 
-enum-known-x : tie.Need-enum-known-x Inv-loop μ-loop
-enum-known-x c = search needs
+enum-known-e : tie.Need-enum-known-e Inv-loop μ-loop
+enum-known-e c = search needs
 
-equation-list-requires : tie.Need-equation-list-requires Inv-loop μ-loop
-equation-list-requires c κs =
-    let at-x = c .before .before .before in
-    let at-loop = at-x .before .before .before in
+equate-requires : tie.Need-equate-requires Inv-loop μ-loop
+equate-requires c κs =
+    let at-e = c .before .before in
+    let at-loop = at-e .before .before .before in
     (at-loop .loop .inv .0, good-wide (start (at-loop .before .before) .pre .0))
 
 enum-told : tie.Need-enum-told Inv-loop μ-loop
@@ -65,12 +65,12 @@ returns : tie.Need-returns Inv-loop μ-loop
 returns c =
     let at-told = c .before in
     let at-call = at-told .before .before in
-    let at-x = at-call .before .before .before .before in
-    let at-next = at-x .before .before in
+    let at-e = at-call .before .before .before in
+    let at-next = at-e .before .before in
     λ es r.
     let k = at-next .before .loop .inv .1 .1 es r in
-    let w = equation-told (at-next .next .ensures _ (some (k .others)) (k .rest)) (at-x .x .given .1) in
-    c .refused .ensures ∙ so-far-full k w (at-call .equation-list .ensures .1) (at-told .enum-told .given .1) _
+    let w = equation-told (at-next .next .ensures _ (some (k .others)) (k .rest)) (at-e .e .given .1) in
+    c .refused .ensures ∙ so-far-full k w (at-call .equate .ensures .1) (at-told .enum-told .given .1) _
 
 enum-known-k : tie.Need-enum-known-k Inv-loop μ-loop
 enum-known-k c = search needs
@@ -78,24 +78,24 @@ enum-known-k c = search needs
 loop-less : tie.Need-loop-less Inv-loop μ-loop
 loop-less c =
     let at-call = c .before .before .before in
-    let at-x = at-call .before .before .before .before in
-    let at-next = at-x .before .before in
+    let at-e = at-call .before .before .before in
+    let at-next = at-e .before .before in
     let k = at-next .before .loop .inv .1 .0 .1 in
-    let w = equation-told (at-next .next .ensures _ (some (k .others)) (k .rest)) (at-x .x .given .1) in
+    let w = equation-told (at-next .next .ensures _ (some (k .others)) (k .rest)) (at-e .e .given .1) in
     omega (arith, w .onward .further, w .onward .inside)
 
 loop-again : tie.Need-loop-again Inv-loop μ-loop
 loop-again c =
     let at-k = c .before in
     let at-call = at-k .before .before in
-    let at-x = at-call .before .before .before .before in
-    let at-next = at-x .before .before in
+    let at-e = at-call .before .before .before in
+    let at-next = at-e .before .before in
     let inv = at-next .before .loop .inv in (
-      subst Within (at-k .k .given .1) (at-call .equation-list .ensures .0),
+      subst Within (at-k .k .given .1) (at-call .equate .ensures .0),
       keeps (inv .1)
           (λ es k.
-          let w = equation-told (at-next .next .ensures _ (some (k .others)) (k .rest)) (at-x .x .given .1) in
-          so-far-step k w (at-call .equation-list .ensures .1) (at-k .k .given .1)),
+          let w = equation-told (at-next .next .ensures _ (some (k .others)) (k .rest)) (at-e .e .given .1) in
+          so-far-step k w (at-call .equate .ensures .1) (at-k .k .given .1)),
     )
 
 enum-told-2 : tie.Need-enum-told-2 Inv-loop μ-loop
@@ -129,6 +129,6 @@ returns-3 c =
 
 pub apply-found-spec : {M : Type 1} → statement M
 apply-found-spec = tie.close
-    (tie.spec Inv-loop μ-loop load-requires loop-holds next-requires enum-known-x equation-list-requires enum-told
+    (tie.spec Inv-loop μ-loop load-requires loop-holds next-requires enum-known-e equate-requires enum-told
     refused-requires returns enum-known-k loop-less loop-again enum-told-2 refused-requires-2 returns-2 enum-told-3
     made-or-full-requires returns-3)

@@ -1,18 +1,14 @@
--- The check of the tokens gives the term and its set; the bit of x, which is 1 to l, is the set of x alone.
+-- The check of the tokens gives the term and its set; the bit of x, which is 1 to l, is the set of x alone, and the tokens are
+-- those of the term.
 use mathlib.Core.Path.{sym, _∙_}
-use Prim.Native.Nat.{_-_}
 use native.Mathlib.Omega.{arith}
-use Rattle.model.specs.Terms.{var, variables}
-use Rattle.model.specs.Equations.{equation}
-use Rattle.model.proofs.Variables.{variables-length}
-use Rattle.words.proofs.Positions.{one-shl}
-use Rattle.tables.proofs.Checking.{good-passes}
-use Rattle.terms.proofs.Reader.{one-variable}
-use Rattle.terms.proofs.Checking.{checked-refuses}
 use Rattle.tables.specs.Refusals.{if-accepted}
+use Rattle.tables.proofs.Checking.{good-passes}
 use Rattle.terms.specs.Checks.{if-read}
+use Rattle.terms.proofs.Checking.{checked-refuses}
+use Rattle.walks.proofs.Starting.{all-tokens}
 use Rattle.operations.specs.Operations.{equation-call}
-use Rattle.operations.proofs.Checked.{Read, good-wide, read-equation}
+use Rattle.operations.proofs.Checked.{Read, good-wide, read-equation, read-counted}
 use borrow.Author.Needs.{needs}
 use Rattle.operations.proofs.equation_checked.Statement.{statement}
 use Rattle.operations.proofs.equation_checked.Tie as tie
@@ -37,16 +33,19 @@ read : (c : tie.After-known-told2) → let a = start (c .before .before .before)
     Read (a .t .l) (a .x) (a .ts .now) (c .before .m .given .0 .0)
 read c = read-equation _ _ _ _ (sym (c .before .before .before .check-equation .ensures) ∙ c .before .m .given .1)
 
-sub-equation-sets-checked : tie.Need-sub-equation-sets-checked
-sub-equation-sets-checked c = omega (arith, read c .low)
+sub-equation-of : tie.Need-sub-equation-of
+sub-equation-of c = omega (arith, read c .low)
 
-shl-equation-sets-checked : tie.Need-shl-equation-sets-checked
-shl-equation-sets-checked c =
+shl-equation-of : tie.Need-shl-equation-of
+shl-equation-of c =
     let w = good-wide (start (c .before .before .before) .pre) in
     omega (arith, read c .high, read c .low)
 
-equation-sets-checked-requires : tie.Need-equation-sets-checked-requires
-equation-sets-checked-requires c κs = start (c .before .before .before) .pre
+equation-of-requires : tie.Need-equation-of-requires
+equation-of-requires c κs = search needs
+
+equation-read-requires : tie.Need-equation-read-requires
+equation-read-requires c κs = start (c .before .before .before .before) .pre
 
 returns : tie.Need-returns
 unfolding equation-call if-accepted if-read
@@ -60,19 +59,20 @@ returns c =
     )
 
 returns-2 : tie.Need-returns-2
-unfolding equation-call if-accepted if-read equation variables
+unfolding equation-call if-accepted if-read
 returns-2 c =
-    let s = start (c .before .before .before .before) in
-    let r = read (c .before) in
-    let w = good-wide (s .pre) in
-    let x = s .args .x in
-    let bit = one-shl (x - 1) 32 (omega (arith, r .high, r .low)) ∙ sym (one-variable _ _ (r .left)) in
+    let at = c .before .before in
+    let at-check = at .before .before .before in
+    let s = start at-check in
+    let r = read at in
+    let short = all-tokens (s .args .ts .now) (λ i. omega (arith, at-check .before .shared-slice-known .given i)) in
     rw (good-passes _ (s .pre), r .is)
-    (c .equation-sets-checked .ensures _ _ (variables-length _ (var _)) (variables-length _ (r .term)) bit (r .word))
+    (c .equation-read .ensures (record { left = s .args .x; right = r .term })
+    (c .before .equation-of .ensures _ _ (read-counted (good-wide (s .pre)) short r)))
 
 pub equation-checked-spec : {M : Type 1} → statement M
 equation-checked-spec =
     tie.close
     (tie.spec
-    check-equation-requires enum-known-r refused-requires enum-known-m sub-equation-sets-checked
-    shl-equation-sets-checked equation-sets-checked-requires returns returns-2)
+    check-equation-requires enum-known-r refused-requires enum-known-m sub-equation-of shl-equation-of
+    equation-of-requires equation-read-requires returns returns-2)

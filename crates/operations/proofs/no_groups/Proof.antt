@@ -1,6 +1,6 @@
 -- The constructors give the table of the list, since the width is good.
 use mathlib.Core.Path.{_∙_}
-use Rattle.model.specs.Unification.{no-groups}
+use Rattle.model.specs.Tables.{no-groups}
 use Rattle.tables.specs.Values.{of-width}
 use borrow.Author.Needs.{needs}
 use Rattle.operations.proofs.no_groups.Statement.{statement}

@@ -7,7 +7,8 @@ use Rattle.model.specs.Walk.{Walked}
 use Rattle.walks.specs.Cursors.{Rest}
 use Rattle.walks.proofs.Keeping.{Kept, keeps}
 use Rattle.walks.proofs.Walking.{rest-inside, term-left, term-right, next-end, next-left, next-right}
-use Rattle.walks.proofs.Walking.{next-clash, rest-down, next-from, bit-left, bit-right}
+use Rattle.walks.proofs.Walking.{next-clash, rest-down, next-from, bit-left, bit-right, past-left}
+use Rattle.walks.proofs.Walking.{past-right}
 use borrow.Author.Needs.{needs}
 use Rattle.walks.proofs.next.Statement.{statement}
 use Rattle.walks.proofs.next.Tie as tie
@@ -50,21 +51,32 @@ cast-x c = search needs
 pass-requires : tie.Need-pass-requires Inv-loop μ-loop
 pass-requires c κs = let lp = turn (c .before) .loop in term-right (lp .inv .1 .0 .1) (omega arith)
 
-sub-t18 : tie.Need-sub-t18 Inv-loop μ-loop
-sub-t18 c = let at = c .before in bit-left (turn (at .before) .loop .inv .1 .0 .1) (omega arith) (at .if1 .taken) .0
+sub-equation-of : tie.Need-sub-equation-of Inv-loop μ-loop
+sub-equation-of c =
+    let at = c .before in bit-left (turn (at .before) .loop .inv .1 .0 .1) (omega arith) (at .if1 .taken) .0
 
-shl-t19 : tie.Need-shl-t19 Inv-loop μ-loop
-shl-t19 c = let at = c .before in bit-left (turn (at .before) .loop .inv .1 .0 .1) (omega arith) (at .if1 .taken) .1
+shl-equation-of : tie.Need-shl-equation-of Inv-loop μ-loop
+shl-equation-of c =
+    let at = c .before in bit-left (turn (at .before) .loop .inv .1 .0 .1) (omega arith) (at .if1 .taken) .1
 
-add-t20 : tie.Need-add-t20 Inv-loop μ-loop
-add-t20 c = search needs
+sub-equation-of-2 : tie.Need-sub-equation-of-2 Inv-loop μ-loop
+sub-equation-of-2 c =
+    let at = c .before in
+    omega (arith, past-right (turn (at .before .before) .loop .inv .1 .0 .1) (omega arith) (at .pass .ensures))
+
+equation-of-requires : tie.Need-equation-of-requires Inv-loop μ-loop
+equation-of-requires c κs = search needs
+
+add-t22 : tie.Need-add-t22 Inv-loop μ-loop
+add-t22 c = search needs
 
 returns : tie.Need-returns Inv-loop μ-loop
 returns c =
-    let lp = turn (c .before .before) .loop in
+    let at = c .before .before in
+    let lp = turn (at .before .before) .loop in
     λ l o r. next-from (lp .inv .0)
-    (next-left (lp .inv .1 .1 (l, o) r) (omega arith) (c .pass .result .end) (c .pass .result .set) (c .before .if1 .taken)
-    (c .pass .ensures))
+    (next-left (lp .inv .1 .1 (l, o) r) (omega arith) (at .pass .result .end) (at .pass .result .set)
+    (c .equation-of .result) (at .before .if1 .taken) (at .pass .ensures) (c .equation-of .ensures))
 
 cast-x-2 : tie.Need-cast-x-2 Inv-loop μ-loop
 cast-x-2 c = search needs
@@ -72,23 +84,33 @@ cast-x-2 c = search needs
 pass-requires-2 : tie.Need-pass-requires-2 Inv-loop μ-loop
 pass-requires-2 c κs = let lp = turn (c .before .before) .loop in term-left (lp .inv .1 .0 .1) (omega arith)
 
-sub-t21 : tie.Need-sub-t21 Inv-loop μ-loop
-sub-t21 c =
+sub-equation-of-3 : tie.Need-sub-equation-of-3 Inv-loop μ-loop
+sub-equation-of-3 c =
     let at = c .before in bit-right (turn (at .before .before) .loop .inv .1 .0 .1) (omega arith) (at .if2 .taken) .0
 
-shl-t22 : tie.Need-shl-t22 Inv-loop μ-loop
-shl-t22 c =
+shl-equation-of-2 : tie.Need-shl-equation-of-2 Inv-loop μ-loop
+shl-equation-of-2 c =
     let at = c .before in bit-right (turn (at .before .before) .loop .inv .1 .0 .1) (omega arith) (at .if2 .taken) .1
 
-add-t23 : tie.Need-add-t23 Inv-loop μ-loop
-add-t23 c = omega (arith, across (c .before .before .before .before .before))
+sub-equation-of-4 : tie.Need-sub-equation-of-4 Inv-loop μ-loop
+sub-equation-of-4 c =
+    let at = c .before in
+    omega (arith, past-left (turn (at .before .before .before) .loop .inv .1 .0 .1) (omega arith) (at .pass2 .ensures))
+
+equation-of-requires-2 : tie.Need-equation-of-requires-2 Inv-loop μ-loop
+equation-of-requires-2 c κs = search needs
+
+add-t27 : tie.Need-add-t27 Inv-loop μ-loop
+add-t27 c = omega (arith, across (c .before .before .before .before .before .before .before))
 
 returns-2 : tie.Need-returns-2 Inv-loop μ-loop
 returns-2 c =
-    let lp = turn (c .before .before .before) .loop in
+    let at = c .before .before in
+    let lp = turn (at .before .before .before) .loop in
     λ l o r. next-from (lp .inv .0)
-    (next-right (lp .inv .1 .1 (l, o) r) (omega arith) (c .before .before .if1 .left) (c .pass2 .result .end)
-    (c .pass2 .result .set) (c .before .if2 .taken) (c .pass2 .ensures))
+    (next-right (lp .inv .1 .1 (l, o) r) (omega arith) (at .before .before .if1 .left) (at .pass2 .result .end)
+    (at .pass2 .result .set) (c .equation-of2 .result) (at .before .if2 .taken) (at .pass2 .ensures)
+    (c .equation-of2 .ensures))
 
 returns-3 : tie.Need-returns-3 Inv-loop μ-loop
 returns-3 c =
@@ -118,6 +140,7 @@ returns-4 c = let lp = c .before .loop in λ l o r. next-from (lp .inv .0) (next
 
 pub next-spec : {M : Type 1} → statement M
 next-spec = tie.close
-    (tie.spec Inv-loop μ-loop loop-holds mul-s shared-slice-read-s mul-t shared-slice-read-t cast-x pass-requires sub-t18
-    shl-t19 add-t20 returns cast-x-2 pass-requires-2 sub-t21 shl-t22 add-t23 returns-2 returns-3 add-a add-b loop-less
-    loop-again returns-4)
+    (tie.spec Inv-loop μ-loop loop-holds mul-s shared-slice-read-s mul-t shared-slice-read-t cast-x pass-requires
+    sub-equation-of shl-equation-of sub-equation-of-2 equation-of-requires add-t22 returns cast-x-2 pass-requires-2
+    sub-equation-of-3 shl-equation-of-2 sub-equation-of-4 equation-of-requires-2 add-t27 returns-2 returns-3 add-a add-b
+    loop-less loop-again returns-4)
