@@ -1,5 +1,6 @@
 -- Demand 2. Wherever a procedure gives a table, its groups are exactly those of the binary definition, none lost and none
--- added; and that table is good again, and has no entry that another subsumes and none all zero. Assumes nothing.
+-- added; and that table is good again, and a grown list: after an equation and a join where the table given was one, since
+-- x = x and a join keep its entries. Assumes nothing.
 use mathlib.Core.Path.{_≡_}
 use mathlib.Core.List.{List}
 use mathlib.Core.Option.{some}

@@ -1,14 +1,12 @@
 -- Demand 2: wherever a procedure gives a table, its groups are exactly those of the binary definition. Assumes nothing.
-use mathlib.Core.Path.{_≡_, refl, _∙_, subst}
-use mathlib.Core.Bool.{Bool, true, false, cond}
+use mathlib.Core.Path.{_≡_, _∙_}
 use mathlib.Core.List.{List, [], _∷_, map}
-use mathlib.Core.Logic.{_↔_, _⊎_, inl, inr, ⊎-elim, ⊎-map, Iff·trans, Iff·symm}
-use mathlib.Core.Option.{some}
+use mathlib.Core.Logic.{_↔_, inl, inr, ⊎-elim, Iff·trans, Iff·symm}
 use Prim.Native.Nat.{ℕ, _<_}
 use native.Mathlib.Omega.{arith}
 use lib.Dec.{T, T-not, not-T}
 use lib.ListN.{length}
-use Rattle.model.specs.Groups.{Bits, Groups, nonzero, AOrB, Those, Equated, Projected, Joined, Among, Listed}
+use Rattle.model.specs.Groups.{Bits, Groups, AOrB, Those, Equated, Projected, Joined, Among, Listed}
 use Rattle.model.specs.Strings.{covers, exactly, stars}
 use Rattle.model.specs.Growth.{Entries, covered, convert, Reduced}
 use Rattle.model.specs.Tables.{Side, positive, negative, opposite, Wide, Good, groups, meets-of, change-side}
@@ -21,7 +19,7 @@ use Rattle.model.proofs.Tests.{not-not, nand, or-cases, or-left, or-rig
 use Rattle.model.proofs.Bits.{ors-map}
 use Rattle.model.proofs.Strings.{exactly-length, exactly-covers, exactly-one, stars-cover}
 use Rattle.model.proofs.Positions.{stars-length}
-use Rattle.model.proofs.Given.{Given, given, given-map, given-both, given-then, Each}
+use Rattle.model.proofs.Given.{Given, given, given-map, given-then, Each}
 use Rattle.model.proofs.Shape.{Shape, empty-shape, grow-all-made, reduced-empty, reduced-one}
 use Rattle.model.proofs.Candidates.{wide-long, meets-of-wide, meets-of-covered}
 use Rattle.model.proofs.ChangeSide.{change-side-made, stars-nonzero}

@@ -256,6 +256,6 @@ module _ (S : Groups) (θ : Bindings) (x : ℕ) (t : Term) (σ : Substitution) (
   after w (yes on) (no n) = inl (none-zero (λ u. occurs w (apply σ u)) θ (gone w on n))
   after w (yes on) (yes h) = inr (inr (linked w on h))
 
-  pub sharing : Describes (Afterwards) (apply-all σ θ)
+  pub sharing : Describes Afterwards (apply-all σ θ)
   unfolding apply-all string-of
   sharing w = rw map-map (after w (decide (occurs w left || occurs w right)) (decide (occurs w (apply σ left))))

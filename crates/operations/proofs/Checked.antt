@@ -1,8 +1,8 @@
 -- What holds after a call's checks: of a good table, of an equation that was read, of a set to project on. Assumes nothing.
-use mathlib.Core.Path.{_≡_, refl, sym, ap, subst, _∙_}
+use mathlib.Core.Path.{_≡_, refl, ap, subst}
 use mathlib.Core.Bool.{Bool, true, false, _&&_, cond}
 use mathlib.Core.List.{List}
-use Prim.Native.Nat.{ℕ, _-_, _*_, _%_, _^_, _≤_, _<_}
+use Prim.Native.Nat.{ℕ, _-_, _^_, _≤_, _<_}
 use native.Mathlib.Omega.{arith}
 use borrow.Author.Tests.{ltb-true, leb-true}
 use lib.Dec.{ltb, leb}
@@ -12,7 +12,6 @@ use Rattle.model.specs.Terms.{Term, variables}
 use Rattle.model.specs.Tokens.{Tokens, named}
 use Rattle.model.proofs.Reader.{whole-exact}
 use Rattle.words.specs.Words.{set-word}
-use Rattle.words.proofs.Positions.{one-shl}
 use Rattle.tables.specs.declared.Table.{Table}
 use Rattle.tables.specs.declared.Refusal.{Refusal}
 use Rattle.tables.specs.declared.Refusal.the-variants as R
@@ -26,7 +25,7 @@ use Rattle.terms.specs.declared.Checked.the-variants.{Variables, Refused}
 use Rattle.terms.specs.Checks as C
 use Rattle.terms.specs.EquationKinds.{Counted}
 use Rattle.terms.specs.Checks.{check-equation, check-term, checked, check-answer}
-use Rattle.terms.proofs.Reader.{one-variable}
+use Rattle.terms.proofs.EquationKinds.{bit-of, bit-word}
 use Rattle.terms.proofs.Checking.{checked-reads, read-whole}
 use Rattle.operations.specs.Operations.{good-keep}
 
@@ -86,11 +85,10 @@ read-equation l x ts m e =
 
 -- What the sets and the tokens of an equation that was read come to.
 pub read-counted : {l x : ℕ} {ts : List ℕ} {m : ℕ} → l ≤ 32 → Tokens ts → (r : Read l x ts m)
-    → Counted l ((1 * 2 ^ (x - 1)) % 2 ^ 32) m (length ts) (record { left = x; right = r .term })
-unfolding variables
+    → Counted l (bit-of x) m (length ts) (record { left = x; right = r .term })
 read-counted {l} {x} {ts} few tokens r = record {
   named = rw (r .left) tt;
-  left-set = one-shl (x - 1) 32 (omega (arith, r .high, r .low)) ∙ sym (one-variable l x (r .left));
+  left-set = bit-word l x few (rw (r .left) tt);
   right-set = r .word;
   count = ap length (whole-exact l ts (r .term) tokens .0 (read-whole l ts (r .term) (r .whole)) .1);
 }

@@ -1,20 +1,35 @@
 -- The kind of an equation, by the words of its two sets and the number of tokens of its term. Assumes nothing.
 use mathlib.Core.Path.{_≡_, refl, sym, ap, ap₂, _∙_}
 use mathlib.Core.Bool.{Bool, true, false, not, cond}
-use Prim.Native.Nat.{ℕ}
+use Prim.Native.Nat.{ℕ, _-_, _*_, _%_, _^_, _≤_}
 use native.Mathlib.Omega.{arith}
 use borrow.Author.Tests.{eq-eqb, ne-eqb}
 use lib.Bits.{bitAnd}
 use lib.Dec.{T, eqb}
 use lib.ListN.{length}
 use Rattle.model.specs.Terms.{Term, Terms, var, head, nil, cons, occurs, occurs-row, variables}
-use Rattle.model.specs.Tokens.{tokens, tokens-row}
+use Rattle.model.specs.Tokens.{named, tokens, tokens-row}
 use Rattle.model.specs.Equations.{Equation, itself, deeper, plain, holding, kind}
 use Rattle.model.proofs.Tests.{true-of}
 use Rattle.model.proofs.Variables.{variables-meet}
+use Rattle.words.specs.Words.{set-word}
 use Rattle.words.proofs.Codec.{apart-words}
+use Rattle.words.proofs.Positions.{one-shl}
 use Rattle.terms.specs.EquationKinds.{Counted}
 use Rattle.terms.proofs.TokenScans.{named-is}
+use Rattle.terms.proofs.Reader.{one-variable}
+
+-- The bit of a variable in a word of 32, as the code makes it,
+abbrev pub bit-of : ℕ → ℕ
+bit-of x = (1 * 2 ^ (x - 1)) % 2 ^ 32
+
+-- is the set of that variable alone.
+pub bit-word : (l x : ℕ) → l ≤ 32 → T (named l x) → bit-of x ≡ set-word (variables l (var x))
+unfolding variables
+bit-word l x few n =
+    let h = true-of (named l x) n in
+    let k = named-is l x h in
+    one-shl (x - 1) 32 (omega (arith, k .0, k .1)) ∙ sym (one-variable l x h)
 
 -- a row of terms that holds a variable has a token
 row-token : (x : ℕ) (ts : Terms) → T (occurs-row x ts) → ¬ (length (tokens-row ts) ≡ 0)

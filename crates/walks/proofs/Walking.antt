@@ -3,7 +3,7 @@ use mathlib.Core.Path.{_≡_, refl, sym, ap, ap₂, _∙_}
 use mathlib.Core.Bool.{Bool, true, false, _&&_, cond}
 use mathlib.Core.List.{List, [], _++_, append-assoc, append-nil}
 use mathlib.Core.Option.{some, none}
-use Prim.Native.Nat.{ℕ, _+_, _-_, _*_, _%_, _^_, _≤_, _<_}
+use Prim.Native.Nat.{ℕ, _+_, _-_, _*_, _≤_, _<_}
 use native.Mathlib.Nat.{suc-inj, suc-ne-zero}
 use native.Mathlib.Omega.{arith}
 use lib.Dec.{T, eqb, eqb→eq, eqb-refl}
@@ -16,16 +16,15 @@ use Rattle.model.specs.Equations.{Equation}
 use Rattle.model.specs.Walk.{Walked, both, walk, walk-row}
 use Rattle.model.proofs.Tests.{true-of}
 use Rattle.words.specs.Words.{set-word}
-use Rattle.words.proofs.Positions.{one-shl}
 use Rattle.terms.specs.declared.Equation as E
 use Rattle.terms.specs.Checks.{word-of}
 use Rattle.terms.specs.EquationKinds.{Counted, Told}
-use Rattle.terms.proofs.Reader.{one-variable}
+use Rattle.terms.proofs.EquationKinds.{bit-of, bit-word}
 use Rattle.walks.specs.declared.Found.{Found}
 use Rattle.walks.specs.declared.Found.the-variants as F
 use Rattle.walks.specs.Cursors.{Across, Rest, found, Onward, Next, at-end, at-clash, at-equation}
 use Rattle.walks.proofs.Passing.{join, tokens-join, writable-join, arity-join, term-tokens, term-word, First, first}
-use Rattle.walks.proofs.Passing.{bit-inside, left-start, left-bit}
+use Rattle.walks.proofs.Passing.{left-start, left-bit}
 
 -- ---- Walks one after another
 
@@ -97,16 +96,6 @@ stood l s i t r e y few p w only = record {
   where
     told : (e ≡ i + length (tokens t)) × (y ≡ word-of (tokens t))
     told = only l (i + length (tokens t)) (word-of (tokens t)) (one-row l s i t r few p w)
-
--- the bit of a variable in a word of 32
-abbrev pub bit-of : ℕ → ℕ
-bit-of x = (1 * 2 ^ (x - 1)) % 2 ^ 32
-
--- the bit of a variable, as the code makes it, is the set of it alone
-bit-word : (l x : ℕ) → l ≤ 32 → T (named l x) → bit-of x ≡ set-word (variables l (var x))
-unfolding variables
-bit-word l x few n =
-    let h = true-of (named l x) n in one-shl (x - 1) 32 (bit-inside l x few h .1) ∙ sym (one-variable l x h)
 
 -- what tells the kind of the equation of these sets and so many tokens
 abbrev pub Tells : ℕ → ℕ → ℕ → E.Equation → Type 0

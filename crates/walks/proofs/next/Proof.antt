@@ -41,9 +41,12 @@ mul-t c = omega (arith, across (c .before))
 shared-slice-read-t : tie.Need-shared-slice-read-t Inv-loop μ-loop
 shared-slice-read-t c = omega (arith, across (c .before .before))
 
--- the loop's state, from where both tokens are read
+-- the loop's body and its state, from where both tokens are read
+abbrev body : tie.After-shared-slice-known4 Inv-loop μ-loop → tie.In-loop Inv-loop μ-loop
+body c = c .before .before
+
 abbrev turn : tie.After-shared-slice-known4 Inv-loop μ-loop → tie.At-loop Inv-loop μ-loop
-turn c = c .before .before .before
+turn c = body c .before
 
 cast-x : tie.Need-cast-x Inv-loop μ-loop
 cast-x c = search needs
@@ -101,7 +104,7 @@ equation-of-requires-2 : tie.Need-equation-of-requires-2 Inv-loop μ-loop
 equation-of-requires-2 c κs = search needs
 
 add-t27 : tie.Need-add-t27 Inv-loop μ-loop
-add-t27 c = omega (arith, across (c .before .before .before .before .before .before .before))
+add-t27 c = let at = c .before .before in omega (arith, across (body (at .before .before .before)))
 
 returns-2 : tie.Need-returns-2 Inv-loop μ-loop
 returns-2 c =
@@ -122,7 +125,7 @@ add-a : tie.Need-add-a Inv-loop μ-loop
 add-a c = search needs
 
 add-b : tie.Need-add-b Inv-loop μ-loop
-add-b c = omega (arith, across (c .before .before .before .before .before))
+add-b c = omega (arith, across (body (c .before .before .before)))
 
 loop-less : tie.Need-loop-less Inv-loop μ-loop
 loop-less c = search needs
