@@ -35,15 +35,20 @@ static row row_of(const uint32_t *tokens, size_t n) {
     return made;
 }
 
+/* An entry of l positions as text. */
+static void show_entry(uint32_t l, sharing_entry entry) {
+    char text[SHARING_MAX_VARIABLES + 1];
+    need(sharing_entry_text(l, entry, text, sizeof text));
+    printf(" %s", text);
+}
+
 /* A line of text, then the entries of a table. */
 static void show(const char *what, form table) {
-    char text[SHARING_MAX_VARIABLES + 1];
     sharing_entry entry;
     printf("   %-46s", what);
     for (size_t i = 0; i < sharing_word_at(table.bytes, 1); i++) {
         need(sharing_entry_at(TABLE(table), i, &entry));
-        need(sharing_entry_text(sharing_word_at(table.bytes, 0), entry, text, sizeof text));
-        printf(" %s", text);
+        show_entry(sharing_word_at(table.bytes, 0), entry);
     }
     printf(sharing_word_at(table.bytes, 1) == 0 ? " no entry\n" : "\n");
 }
@@ -270,6 +275,40 @@ static void own_term(void) {
     show(never ? "after X1 = f(X1), which never holds" : "no such term", none);
 }
 
+/* What is told of a group after X1 = the term, and the two entries where it is joined. */
+static void show_reason(const char *what, form before, row term, uint32_t group) {
+    uint32_t verdict, x_entry, t_entry, l = sharing_word_at(before.bytes, 0);
+    need(sharing_reason(TABLE(before), 1, TERM(term), group, &verdict, &x_entry, &t_entry));
+    printf("   %-46s %s\n", what, sharing_verdict_text(verdict));
+    if (verdict != SHARING_JOINED)
+        return;
+    sharing_entry x, t;
+    need(sharing_entry_at(TABLE(before), x_entry, &x));
+    need(sharing_entry_at(TABLE(before), t_entry, &t));
+    printf("   %-46s", "the first entries for x and for t");
+    show_entry(l, x);
+    show_entry(l, t);
+    printf("\n");
+}
+
+/* 12. After X1 = f(X2) goals on X1 and on X3 may not run side by side, though X3 is not in it. */
+static void why_not(void) {
+    form given = table_of("100 010 011 001"), before, after;
+    uint32_t apart = 1, group = 0;
+    const uint32_t tokens[] = {sharing_head(0, 1), 2};
+    row f_x2 = row_of(tokens, 2);
+    printf("\n12. Why two goals may not run side by side\n");
+    need(sharing_read(TABLE(given), OUT(before)));
+    show("before X1 = f(X2)", before);
+    need(sharing_equation(POSITIVE(before), 1, TERM(f_x2), OUT(after)));
+    show("after X1 = f(X2)", after);
+    need(sharing_independent(POSITIVE(after), 1u << 0, 1u << 2, &apart));
+    printf("   %-46s %s\n", "may goals on X1 and on X3 run side by side?", apart ? "yes" : "no");
+    need(sharing_meeting_group(TABLE(after), 1u << 0, 1u << 2, &group));
+    show_reason("the group that is found, of X1, X2 and X3", before, f_x2, group);
+    show_reason("the group of X1 and X3 alone", before, f_x2, 1u << 0 | 1u << 2);
+}
+
 int main(void) {
     printf("The recipes of docs/COMPILER.md\n");
     start_clause();
@@ -283,5 +322,6 @@ int main(void) {
     arity_zero();
     symbols();
     own_term();
+    why_not();
     return EXIT_SUCCESS;
 }

@@ -139,7 +139,7 @@
 
 /* The version, which stands here and nowhere else, as numbers and as text. */
 #define SHARING_VERSION_MAJOR 0
-#define SHARING_VERSION_MINOR 6
+#define SHARING_VERSION_MINOR 7
 #define SHARING_VERSION_PATCH 0
 #define SHARING_VERSION                                                                            \
     SHARING_QUOTED(SHARING_VERSION_MAJOR)                                                          \
@@ -173,7 +173,7 @@ enum {
     SHARING_FULL = 8,    /* entry 257 is needed */
     SHARING_NARROW = 9,  /* the output is too short */
     SHARING_UNLIKE = 10, /* two tables of different l */
-    SHARING_KEEP = 11,   /* projection onto no variable, or onto one above l */
+    SHARING_KEEP = 11,   /* projection onto no variable or one above l, or an empty group */
     SHARING_DIGIT = 12   /* a packed byte of 243 or more, or an unused digit that is not 0 */
 };
 
@@ -189,6 +189,17 @@ enum {
 
 /* The sides. */
 enum { SHARING_POSITIVE = 0, SHARING_NEGATIVE = 1 };
+
+/* What sharing_reason finds of a group, after "x = t": it is kept or joined, or else absent. */
+enum {
+    SHARING_KEPT = 0,        /* kept: it was there, and the equation does not touch it */
+    SHARING_JOINED = 1,      /* joined: groups inside it with x and variables of t make it up */
+    SHARING_NO_X_ENTRY = 2,  /* absent: no entry covers a group inside it with x */
+    SHARING_NO_T_ENTRY = 3,  /* absent: no entry covers a group inside it with a variable of t */
+    SHARING_NOT_MADE_UP = 4, /* absent: groups inside it with x or variables of t lack a part */
+    SHARING_NOT_THERE = 5,   /* absent: it was not there, and the equation does not touch it */
+    SHARING_NO_SOLUTION = 6  /* absent: t has x deeper, and no finite term solves the equation */
+};
 
 /* A table as a value: l variables, n entries, and zeros past the count. Its words have 32 bits,
  * whatever l is. */
@@ -336,6 +347,31 @@ uint32_t sharing_ground(uint32_t side, const uint8_t *table, size_t table_len, u
 SHARING_MUST_USE
 uint32_t sharing_independent(uint32_t side, const uint8_t *table, size_t table_len, uint32_t first,
                              uint32_t second, uint32_t *answer);
+
+/*
+ * Is a group in a positive table after the equation "variable = term", and why or why not? It is
+ * for authors whose goals may not run side by side: of a group that meets both goals it tells which
+ * entries joined it. sharing_meeting_group in sharing_util.h finds such a group.
+ * Let x be the variable and t the term. The equation touches each group that has x or a variable of
+ * t; X1 = X1 touches none. A group is inside another if that one has all its variables; so it is
+ * inside itself. Where t has x deeper, every group is SHARING_NO_SOLUTION. Else a group that is not
+ * touched is SHARING_KEPT or SHARING_NOT_THERE. One that is touched is the first of these that
+ * holds: SHARING_NO_X_ENTRY, SHARING_NO_T_ENTRY, SHARING_NOT_MADE_UP, and else SHARING_JOINED.
+ * The table after the equation has the group exactly where it is kept or joined. That table is not
+ * made here: this holds also where sharing_equation is refused 8.
+ * Reads table, which is positive, and term; group is a set of variables. Writes *verdict and, of a
+ * joined group, two entries, counted from 0 in the table as sharing_read writes it: *x_entry is the
+ * lowest that covers a group inside it with x, *t_entry the lowest that covers one with a variable
+ * of t. They may be the same, and further ones may have a part in the group. With any other verdict
+ * both are 0.
+ * Refusals in order: TABLE FORM; TERM; 4 where group has a bit above l; 11 where group is 0. It is
+ * never refused 8 or 9.
+ * After a refusal: *verdict, *x_entry and *t_entry are as they were.
+ */
+SHARING_MUST_USE
+uint32_t sharing_reason(const uint8_t *table, size_t table_len, uint32_t variable,
+                        const uint8_t *term, size_t term_len, uint32_t group, uint32_t *verdict,
+                        uint32_t *x_entry, uint32_t *t_entry);
 
 /*
  * Of a positive and a negative form, the one with fewer entries.

@@ -285,10 +285,87 @@ static inline const char *sharing_refusal_sentence(uint32_t code) {
         "entry 257 is needed",
         "the output is too short",
         "two tables of different l",
-        "projection onto no variable, or onto one above l",
+        "projection onto no variable or one above l, or an empty group",
         "a packed byte of 243 or more, or an unused digit that is not 0"};
     return code < sizeof sentences / sizeof sentences[0] ? sentences[code]
                                                          : "no answer of the calls";
+}
+
+/* ---- Reasons: what sharing_reason tells of a group, and which group to ask it for */
+
+/* A verdict of sharing_reason in words, as in sharing.h. */
+static inline const char *sharing_verdict_text(uint32_t verdict) {
+    static const char *const texts[] = {
+        "kept: it was there, and the equation does not touch it",
+        "joined: groups inside it with x and variables of t make it up",
+        "absent: no entry covers a group inside it with x",
+        "absent: no entry covers a group inside it with a variable of t",
+        "absent: groups inside it with x or variables of t lack a part",
+        "absent: it was not there, and the equation does not touch it",
+        "absent: t has x deeper, and no finite term solves the equation"};
+    return verdict < sizeof texts / sizeof texts[0] ? texts[verdict]
+                                                    : "no verdict of sharing_reason";
+}
+
+/* How many variables a set has. */
+static inline size_t sharing_set_size(uint32_t set) {
+    size_t size = 0;
+    for (; set != 0; set &= set - 1)
+        size++;
+    return size;
+}
+
+/* The set of the first variable of a set; the empty set where there is none. */
+static inline uint32_t sharing_first_of(uint32_t set) {
+    return set & (~set + 1);
+}
+
+/* Does a set stand before another? The one of fewer variables does or, of as many, the one that has
+ * the first variable in which they differ. */
+static inline int sharing_set_before(uint32_t set, uint32_t other) {
+    size_t size = sharing_set_size(set), other_size = sharing_set_size(other);
+    if (size != other_size)
+        return size < other_size;
+    return (sharing_first_of(set ^ other) & set) != 0;
+}
+
+/*
+ * The first group of an entry, in that order, that meets two sets; 0 where none does. It has the 1s
+ * of the entry and, for a set that these do not meet, the first star that is in it: one for both
+ * sets where there is such a star.
+ */
+static inline uint32_t sharing_meeting_entry(sharing_entry entry, uint32_t first, uint32_t second) {
+    uint32_t group = entry.value;
+    if ((group & first) == 0 && (group & second) == 0)
+        group |= sharing_first_of(~entry.care & first & second);
+    if ((group & first) == 0)
+        group |= sharing_first_of(~entry.care & first);
+    if ((group & second) == 0)
+        group |= sharing_first_of(~entry.care & second);
+    return (group & first) != 0 && (group & second) != 0 ? group : 0;
+}
+
+/*
+ * A group of a positive table that meets two sets of variables, to ask sharing_reason for: such a
+ * group is why goals on these sets may not run side by side. Of all of them it is the one that
+ * stands before the others. Writes it to *group, or 0 where sharing_independent says yes.
+ * Refusals in order: TABLE FORM; 5 where first or second has a bit above l.
+ */
+SHARING_MUST_USE
+static inline uint32_t sharing_meeting_group(const uint8_t *table, size_t table_len, uint32_t first,
+                                             uint32_t second, uint32_t *group) {
+    uint32_t code = sharing_check(table, table_len), least = 0;
+    if (code != SHARING_ACCEPTED)
+        return code;
+    if (((first | second) & ~sharing_variables(sharing_word_at(table, 0))) != 0)
+        return SHARING_NAME;
+    for (size_t i = 0; i < sharing_word_at(table, 1); i++) {
+        uint32_t met = sharing_meeting_entry(sharing_entry_in(table, i), first, second);
+        if (met != 0 && (least == 0 || sharing_set_before(met, least)))
+            least = met;
+    }
+    *group = least;
+    return SHARING_ACCEPTED;
 }
 
 /* ---- Equations: what they come to by their terms, for those who want to see or to tell it */

@@ -36,9 +36,10 @@ static size_t make_table(uint8_t table[12]) {
     return l <= 16 ? 8 : 12;
 }
 
-/* The answers to the term on one table: by itself on either side, and as the equation of a run. */
+/* The answers to the term on one table: by itself on either side, as the equation of a run, and as that of a reason. */
 static int answers(const uint8_t *term) {
     static uint8_t table[12], equations[8 + 2 * TOKENS], out[SHARING_MAX_FORM];
+    uint32_t told[3];
     size_t table_len = make_table(table);
     put(equations, 1), put(equations + 2, TOKENS), put(equations + 4, 1), put(equations + 6, TOKENS);
     for (size_t i = 0; i < 2 * TOKENS; i++)
@@ -49,7 +50,8 @@ static int answers(const uint8_t *term) {
         if (code != SHARING_ACCEPTED || ran.code != SHARING_ACCEPTED)
             return printf("side %u: %u, and %u of the run\n", (unsigned)side, (unsigned)code, (unsigned)ran.code);
     }
-    return 0;
+    uint32_t code = sharing_reason(table, table_len, 1, term, 2 * TOKENS, 1, &told[0], &told[1], &told[2]);
+    return code == SHARING_ACCEPTED ? 0 : printf("the reason: %u\n", (unsigned)code);
 }
 
 /* The answers to two terms in the same way. */

@@ -21,11 +21,11 @@
 /* The calls, numbered as in the stream. */
 enum call {
     READ, PACK, UNPACK, CONVERT, CHANGE_SIDE, EQUATION, UNIFY, JOIN, PROJECT, EQUAL,
-    GROUND, INDEPENDENT, SMALLER, RUN, UNIFY_RUN, START, STEP, UNIFY_STEP, WRITE, CALLS
+    GROUND, INDEPENDENT, REASON, SMALLER, RUN, UNIFY_RUN, START, STEP, UNIFY_STEP, WRITE, CALLS
 };
 static const char *const names[CALLS] = {
-    "read",   "pack",        "unpack",  "convert", "change_side", "equation", "unify", "join",       "project", "equal",
-    "ground", "independent", "smaller", "run",     "unify_run",   "start",    "step",  "unify_step", "write"};
+    "read",   "pack",        "unpack", "convert", "change_side", "equation",  "unify", "join", "project",    "equal",
+    "ground", "independent", "reason", "smaller", "run",         "unify_run", "start", "step", "unify_step", "write"};
 
 struct row { uint32_t len; uint8_t *bytes; };
 
@@ -38,8 +38,8 @@ struct record {
     uint32_t part_of, part_len; /* 0: part of the first buffer, 1: of the second, 2: empty */
 };
 
-/* What a call is lent. */
-enum role { FIRST, SECOND, THIRD, OUT, STATE, PART, ROLES };
+/* What a call is lent. The three words of a reason are OUT and the two entries. */
+enum role { FIRST, SECOND, THIRD, OUT, X_ENTRY, T_ENTRY, STATE, PART, ROLES };
 enum placing { BEFORE_FENCE, BEHIND_FENCE, BLOCK, PLACINGS };
 static const char *const placings[PLACINGS] = {"buffers end at a fence", "buffers begin at a fence", "buffers are blocks"};
 
@@ -133,7 +133,11 @@ static int same_state(const sharing_running *state, const uint8_t *bytes)
 }
 
 /* The lent memory of the present call. */
-struct lent { uint8_t *first, *second, *third, *out; sharing_running *state; sharing_part *part; };
+struct lent { uint8_t *first, *second, *third, *out, *x_entry, *t_entry; sharing_running *state; sharing_part *part; };
+
+/* How many bytes of what a call writes are in OUT, and how many in each entry. */
+static size_t out_len(const struct record *r) { return r->call == REASON ? 4 : r->held.len; }
+static size_t entry_len(const struct record *r) { return r->call == REASON ? 4 : 0; }
 
 static uint32_t make_call(const struct record *r, const struct lent *m)
 {
@@ -151,6 +155,9 @@ static uint32_t make_call(const struct record *r, const struct lent *m)
     case EQUAL: return sharing_equal(m->first, first, m->second, second, (uint32_t *)(void *)m->out);
     case GROUND: return sharing_ground(r->side, m->first, first, r->word, (uint32_t *)(void *)m->out);
     case INDEPENDENT: return sharing_independent(r->side, m->first, first, r->word, r->other, (uint32_t *)(void *)m->out);
+    case REASON:
+        return sharing_reason(m->first, first, r->word, m->second, second, r->other, (uint32_t *)(void *)m->out,
+                              (uint32_t *)(void *)m->x_entry, (uint32_t *)(void *)m->t_entry);
     case SMALLER: sharing_smaller(m->first, first, m->second, second, m->part); return 0;
     case RUN: *m->state = sharing_run(r->side, m->first, first, m->second, second); return m->state->code;
     case UNIFY_RUN: *m->state = sharing_unify_run(r->side, m->first, first, m->second, second); return m->state->code;
@@ -161,15 +168,22 @@ static uint32_t make_call(const struct record *r, const struct lent *m)
     }
 }
 
+/* Whether a place holds other bytes than these; it may be null where there are none. */
+static int differs(const uint8_t *at, const uint8_t *bytes, size_t len)
+{
+    return len > 0 && memcmp(at, bytes, len) != 0;
+}
+
 static void compare(const struct record *r, const struct lent *m, uint32_t number)
 {
+    size_t word = entry_len(r);
     if (number != r->number)
         fail("another number");
-    if (r->out.len != r->held.len || (r->out.len > 0 && memcmp(m->out, r->out.bytes, r->out.len) != 0))
+    if (r->out.len != r->held.len || differs(m->out, r->out.bytes, out_len(r)) ||
+        differs(m->x_entry, r->out.bytes + word, word) || differs(m->t_entry, r->out.bytes + 2 * word, word))
         fail("another output");
-    if ((r->first.len > 0 && memcmp(m->first, r->first.bytes, r->first.len) != 0) ||
-        (r->second.len > 0 && memcmp(m->second, r->second.bytes, r->second.len) != 0) ||
-        (r->third.len > 0 && memcmp(m->third, r->third.bytes, r->third.len) != 0))
+    if (differs(m->first, r->first.bytes, r->first.len) || differs(m->second, r->second.bytes, r->second.len) ||
+        differs(m->third, r->third.bytes, r->third.len))
         fail("an input was changed");
     if (r->state_after.len == STATE_BYTES && !same_state(m->state, r->state_after.bytes))
         fail("another state");
@@ -190,7 +204,9 @@ static void run_placed(const struct record *r)
     m.first = place(FIRST, r->first.bytes, r->first.len);
     m.second = place(SECOND, r->second.bytes, r->second.len);
     m.third = place(THIRD, r->third.bytes, r->third.len);
-    m.out = place(OUT, r->held.bytes, r->held.len);
+    m.out = place(OUT, r->held.bytes, out_len(r));
+    m.x_entry = place(X_ENTRY, r->held.bytes + entry_len(r), entry_len(r));
+    m.t_entry = place(T_ENTRY, r->held.bytes + 2 * entry_len(r), entry_len(r));
     m.state = (sharing_running *)(void *)place(STATE, &state, sizeof state);
     sharing_part part = {m.first, 0};
     m.part = (sharing_part *)(void *)place(PART, &part, sizeof part);
@@ -208,6 +224,8 @@ static void run_placed(const struct record *r)
     leave(m.second);
     leave(m.third);
     leave(m.out);
+    leave(m.x_entry);
+    leave(m.t_entry);
     leave((uint8_t *)m.state);
     leave((uint8_t *)m.part);
 }

@@ -24,6 +24,9 @@ CHECK(longest_packed,
           SHARING_MAX_PACKED == 4 + (SHARING_MAX_VARIABLES + 4) / 5 * SHARING_MAX_ENTRIES &&
           (int)SHARING_MAX_PACKED <= (int)SHARING_MAX_FORM);
 CHECK(sides, SHARING_POSITIVE == 0 && SHARING_NEGATIVE != 0);
+CHECK(verdicts, SHARING_KEPT == 0 && SHARING_JOINED == 1 && SHARING_NO_X_ENTRY == 2 &&
+                    SHARING_NO_T_ENTRY == 3 && SHARING_NOT_MADE_UP == 4 &&
+                    SHARING_NOT_THERE == 5 && SHARING_NO_SOLUTION == 6);
 CHECK(table_layout, offsetof(sharing_table, n) == 8 && offsetof(sharing_table, care) == 16 &&
                         offsetof(sharing_table, value) == 1040 && sizeof(sharing_table) == 2064);
 CHECK(running_layout, offsetof(sharing_running, side) == 4 &&
@@ -50,6 +53,7 @@ struct calls {
     word (*equal)(in, size_t, in, size_t, word *);
     word (*ground)(word, in, size_t, word, word *);
     word (*independent)(word, in, size_t, word, word, word *);
+    word (*reason)(in, size_t, word, in, size_t, word, word *, word *, word *);
     void (*smaller)(in, size_t, in, size_t, sharing_part *);
     sharing_running (*run)(word, in, size_t, in, size_t);
     sharing_running (*unify_run)(word, in, size_t, in, size_t);
@@ -60,8 +64,8 @@ struct calls {
 } calls = {sharing_read,        sharing_pack,       sharing_unpack, sharing_convert,
            sharing_change_side, sharing_equation,   sharing_unify,  sharing_join,
            sharing_project,     sharing_equal,      sharing_ground, sharing_independent,
-           sharing_smaller,     sharing_run,        sharing_unify_run, sharing_start,
-           sharing_step,        sharing_unify_step, sharing_write};
+           sharing_reason,      sharing_smaller,    sharing_run,    sharing_unify_run,
+           sharing_start,       sharing_step,       sharing_unify_step, sharing_write};
 
 #if SHARING_VERSION_MAJOR < 0 || SHARING_VERSION_MINOR < 0 || SHARING_VERSION_PATCH < 0
 #error "the preprocessor cannot compare the version"

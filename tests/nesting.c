@@ -19,12 +19,13 @@ static uint8_t table[SHARING_MAX_FORM], other[SHARING_MAX_FORM], out[SHARING_MAX
 static uint8_t term[2 * SHARING_MAX_TOKENS], equations[8 + 2 * SHARING_MAX_TOKENS];
 static uint8_t packed[SHARING_MAX_PACKED];
 static size_t table_len, packed_len, term_len, left_len; /* the left term is the first part of two */
-static uint32_t side, code, answer, l, words[SHARING_MAX_VARIABLES]; /* the words are 1 to l */
+static uint32_t side, code, answer, x_entry, t_entry;
+static uint32_t l, words[SHARING_MAX_VARIABLES]; /* the words are 1 to l */
 static sharing_running state;
 static int number;
 
 /* The calls with a term, those with two, the others, and functions of sharing_util.h. */
-enum { EQUATION, RUN, STEP, WITH_ONE };
+enum { EQUATION, RUN, STEP, REASON, WITH_ONE };
 enum { UNIFY = WITH_ONE, UNIFY_RUN, UNIFY_STEP, WITH_TERM };
 enum { READ = WITH_TERM, PACK, UNPACK, CONVERT, SIDES, JOIN, PROJECT, EQUAL, GROUND, INDEPENDENT,
        START, WRITE, WITHOUT_TERM };
@@ -39,6 +40,9 @@ static void *call(void *unused) {
     case EQUATION: code = sharing_equation(side, t, n, 1, term, term_len, out, o); break;
     case RUN: state = sharing_run(side, t, n, equations, 8 + term_len); code = state.code; break;
     case STEP: code = sharing_step(&state, 1, term, term_len); break;
+    case REASON:
+        code = sharing_reason(t, n, 1, term, term_len, all, &answer, &x_entry, &t_entry);
+        break;
     case UNIFY:
         code = sharing_unify(side, t, n, term, left_len, right, right_len, out, o);
         break;

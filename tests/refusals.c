@@ -13,13 +13,14 @@
 #define WIDE(w) WORD(w), WORD((w) >> 16) /* a care or value word from l = 17 on */
 #define BYTES(buffer) (buffer), sizeof(buffer)
 #define COUNT(array) (sizeof(array) / sizeof((array)[0]))
+#define TOLD &told[0], &told[1], &told[2] /* the words of sharing_reason */
 #define EXPECT(due, code) expect_at(__LINE__, due, code)
 #define HOLDS(fact) holds_at(__LINE__, fact)
 
 enum { FILL = 0x5a, NO_ANSWER = 7, FAR = 99 };
 
 static uint8_t out[SHARING_MAX_FORM];
-static uint32_t answer;
+static uint32_t answer, told[3];
 static unsigned cases, failures;
 
 static void holds_at(int line, int holds) {
@@ -32,11 +33,13 @@ static void holds_at(int line, int holds) {
 
 static void clear_outputs(void) {
     memset(out, FILL, sizeof out);
-    answer = NO_ANSWER;
+    answer = told[0] = told[1] = told[2] = NO_ANSWER;
 }
 
 static void expect_at(int line, uint32_t due, uint32_t code) {
     int kept = answer == NO_ANSWER;
+    for (size_t i = 0; i < COUNT(told); i++)
+        kept = kept && told[i] == NO_ANSWER;
     for (size_t i = 0; i < sizeof out; i++)
         kept = kept && out[i] == FILL;
     holds_at(line, code == due && (due == SHARING_ACCEPTED || kept));
@@ -165,6 +168,7 @@ static void refuse_table(bad_form bad) {
     EXPECT(bad.due, sharing_equal(BYTES(good), form, len, &answer));
     EXPECT(bad.due, sharing_ground(0, form, len, FAR, &answer));
     EXPECT(bad.due, sharing_independent(1, form, len, 1u << 31, 0, &answer));
+    EXPECT(bad.due, sharing_reason(form, len, FAR, BYTES(zeros), 0, TOLD));
     sharing_running started = sharing_start(1, form, len);
     EXPECT(bad.due, started.code);
     HOLDS(started.side == 1 && is_zero(&started));
@@ -211,9 +215,11 @@ static void refuse_packed(void) {
     clear_outputs();
 }
 
-/* The refusals of an equation, of one call and of a step, which keeps its whole state. */
+/* The refusals of an equation, of one call, of a reason, and of a step, which keeps its state. */
 static void refuse_equation(bad_equation bad) {
     EXPECT(bad.due, sharing_equation(1, BYTES(good), bad.variable, bad.term, bad.len, out, 0));
+    EXPECT(bad.due, sharing_reason(BYTES(good), bad.variable, bad.term, bad.len, 8, TOLD));
+    EXPECT(bad.due, sharing_reason(BYTES(good), bad.variable, bad.term, bad.len, 0, TOLD));
     sharing_running state = sharing_start(0, BYTES(good)), before;
     memcpy(&before, &state, sizeof state);
     EXPECT(bad.due, sharing_step(&state, bad.variable, bad.term, bad.len));
@@ -368,6 +374,51 @@ static void set_equal_to_itself(void) {
     }
 }
 
+/* A table, and an equation of it. */
+typedef struct {
+    const uint8_t *table; size_t len; uint32_t variable; const uint8_t *term; size_t term_len;
+} asked;
+
+/* Does the call tell these three words of a group? */
+static int tells(asked a, uint32_t group, uint32_t verdict, uint32_t x_entry, uint32_t t_entry) {
+    uint32_t code = sharing_reason(a.table, a.len, a.variable, a.term, a.term_len, group, TOLD);
+    int same = code == SHARING_ACCEPTED && told[0] == verdict && told[1] == x_entry &&
+               told[2] == t_entry;
+    clear_outputs();
+    return same;
+}
+
+/* Each verdict, of the table 100, 01*, 0*1 and of two that show more. */
+static void reasons(void) {
+    static const uint8_t f_x1[] = {WORD(0x8011), WORD(1)}, variable_3[] = {WORD(3)};
+    static const uint8_t apart[] = {WORD(3), WORD(2), WORD(7), WORD(7), WORD(1), WORD(2)};
+    static const uint8_t ones[] = {WORD(3), WORD(1), WORD(7), WORD(7)};
+    /* 100, 1*0, 001: reading leaves 1*0, 001. */
+    static const uint8_t grown[] = {WORD(3), WORD(3), WORD(7), WORD(5),
+                                    WORD(7), WORD(1), WORD(1), WORD(4)};
+    const asked equal = {BYTES(good), 1, BYTES(variable_2)};
+    const asked itself = {BYTES(good), 2, BYTES(variable_2)};
+    const asked deeper = {BYTES(good), 1, BYTES(f_x1)};
+    const asked lacking = {BYTES(apart), 1, BYTES(variable_2)};
+    const asked one = {BYTES(ones), 1, BYTES(variable_2)};
+    const asked read = {BYTES(grown), 1, BYTES(variable_3)};
+    HOLDS(tells(equal, 4, SHARING_KEPT, 0, 0));
+    HOLDS(tells(equal, 3, SHARING_JOINED, 0, 1) && tells(equal, 7, SHARING_JOINED, 0, 1));
+    HOLDS(tells(equal, 2, SHARING_NO_X_ENTRY, 0, 0) && tells(equal, 6, SHARING_NO_X_ENTRY, 0, 0));
+    HOLDS(tells(equal, 1, SHARING_NO_T_ENTRY, 0, 0) && tells(equal, 5, SHARING_NO_T_ENTRY, 0, 0));
+    HOLDS(tells(lacking, 7, SHARING_NOT_MADE_UP, 0, 0));
+    HOLDS(tells(lacking, 4, SHARING_NOT_THERE, 0, 0) && tells(lacking, 3, SHARING_JOINED, 0, 1));
+    for (uint32_t group = 1; group < 8; group++) {
+        int there = group == 1 || (group & 1) == 0;
+        HOLDS(tells(itself, group, there ? SHARING_KEPT : SHARING_NOT_THERE, 0, 0));
+        HOLDS(tells(deeper, group, SHARING_NO_SOLUTION, 0, 0));
+    }
+    EXPECT(SHARING_STRAY, sharing_reason(BYTES(good), 1, BYTES(f_x1), 8, TOLD));
+    EXPECT(SHARING_KEEP, sharing_reason(BYTES(good), 1, BYTES(f_x1), 0, TOLD));
+    HOLDS(tells(one, 7, SHARING_JOINED, 0, 0) && tells(one, 3, SHARING_NO_X_ENTRY, 0, 0));
+    HOLDS(tells(read, 5, SHARING_JOINED, 0, 1) && tells(read, 7, SHARING_JOINED, 0, 1));
+}
+
 /* The refusals of the form of equations. */
 static void refuse_equations(void) {
     static const uint8_t e_65[] = {WORD(65), WORD(1025)};
@@ -410,6 +461,9 @@ static void refuse_rest(void) {
     EXPECT(SHARING_NAME, sharing_ground(1, BYTES(good), 4, &answer));
     EXPECT(SHARING_NAME, sharing_independent(0, BYTES(good), 8, 0, &answer));
     EXPECT(SHARING_NAME, sharing_independent(1, BYTES(good), 0, 8, &answer));
+    EXPECT(SHARING_STRAY, sharing_reason(BYTES(good), 1, BYTES(variable_2), 8, TOLD));
+    EXPECT(SHARING_STRAY, sharing_reason(BYTES(good), 1, BYTES(variable_2), 1u << 31 | 3, TOLD));
+    EXPECT(SHARING_KEEP, sharing_reason(BYTES(good), 1, BYTES(variable_2), 0, TOLD));
     sharing_running state = sharing_start(0, BYTES(good));
     EXPECT(SHARING_NARROW, sharing_read(BYTES(good), out, sizeof good - 1));
     EXPECT(SHARING_NARROW, sharing_convert(3, words, 1, out, 7));
@@ -534,6 +588,10 @@ static void refuse_full_equation(void) {
     memcpy(run, sizes, sizeof sizes);
     memcpy(run + sizeof sizes, term, sizeof term);
     EXPECT(SHARING_FULL, sharing_equation(0, BYTES(next), 1, BYTES(term), out, 0));
+    /* A reason is given all the same. */
+    const asked full = {BYTES(next), 1, BYTES(term)};
+    HOLDS(tells(full, 3, SHARING_JOINED, 0, 0) && tells(full, 0xffff, SHARING_JOINED, 0, 0));
+    HOLDS(tells(full, 6, SHARING_NO_X_ENTRY, 0, 0) && tells(full, 11, SHARING_NOT_MADE_UP, 0, 0));
     sharing_running state = sharing_start(0, BYTES(next));
     EXPECT(SHARING_ACCEPTED, sharing_step(&state, 1, variable_2, 2));
     EXPECT(SHARING_FULL, sharing_step(&state, 1, BYTES(term)));
@@ -656,6 +714,7 @@ static void width_sets(const two_free *t) {
     if (t->l == 32) /* a word has no bit above it */
         return;
     EXPECT(SHARING_STRAY, sharing_convert(t->l, (const uint32_t[]){1, last << 1}, 2, out, 0));
+    EXPECT(SHARING_STRAY, sharing_reason(t->form, t->len, 1, variable_2, 2, last << 1, TOLD));
     EXPECT(SHARING_KEEP, sharing_project(0, t->form, t->len, last << 1 | 1, out, 0));
     EXPECT(SHARING_NAME, sharing_independent(0, t->form, t->len, last << 1, 0, &answer));
     EXPECT(SHARING_NAME, sharing_independent(1, t->form, t->len, 0, last << 1, &answer));
@@ -676,6 +735,11 @@ static void width_equations(const two_free *t) {
     HOLDS(wrote(due, due_len));
     HOLDS(sharing_unify(0, t->form, t->len, x1, 2, last, 2, out, due_len) == SHARING_ACCEPTED);
     HOLDS(wrote(due, due_len));
+    const asked reason = {t->form, t->len, t->l, x1, 2};
+    HOLDS(tells(reason, both, SHARING_JOINED, 1, 0) && tells(reason, 2, SHARING_NOT_THERE, 0, 0));
+    HOLDS(tells(reason, 1, SHARING_NO_X_ENTRY, 0, 0));
+    HOLDS(tells(reason, all, SHARING_NOT_MADE_UP, 0, 0));
+    EXPECT(SHARING_NAME, sharing_reason(t->form, t->len, t->l + 1, x1, 2, both, TOLD));
     sharing_running state = sharing_run(0, t->form, t->len, BYTES(run));
     HOLDS(sharing_write(&state, out, due_len) == SHARING_ACCEPTED && wrote(due, due_len));
     state = sharing_unify_run(0, t->form, t->len, BYTES(unify_run));
@@ -737,6 +801,7 @@ int main(void) {
     refuse_term_equations();
     two_terms_set_equal();
     set_equal_to_itself();
+    reasons();
     refuse_rest();
     refuse_values();
     refuse_full_lists(16, 2);

@@ -14,7 +14,7 @@ enum { THREADS = 8, ROUNDS = 200, TABLES = 24, L = 7, WIDE = 32 };
 typedef struct { uint8_t bytes[SHARING_MAX_FORM]; } form;
 
 /* All that the calls give for one table and the next. */
-typedef struct { uint32_t codes[12]; form forms[8]; uint32_t answers[3]; } result;
+typedef struct { uint32_t codes[13]; form forms[8]; uint32_t answers[6]; } result;
 
 static form tables[TABLES];
 static result due[TABLES];
@@ -50,6 +50,8 @@ static void calls(size_t i, result *got) {
                                    got->forms[7].bytes, sizeof(form));
     got->codes[11] = sharing_unify_step(&state, other, sizeof other, term, term_len);
     got->answers[2] = state.applied;
+    got->codes[12] = sharing_reason(one, one_len, 1, term, term_len, 0x57, &got->answers[3],
+                                    &got->answers[4], &got->answers[5]);
 }
 
 /* One thread: all tables, many times. Its answer is NULL where something differs. */
@@ -90,6 +92,6 @@ int main(void) {
             return EXIT_FAILURE;
         }
     }
-    printf("%d threads, %d calls each\n", THREADS, ROUNDS * TABLES * 14);
+    printf("%d threads, %d calls each\n", THREADS, ROUNDS * TABLES * 15);
     return EXIT_SUCCESS;
 }

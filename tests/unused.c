@@ -23,6 +23,7 @@ int main(void) {
     sharing_equal(b, 4, b, 4, &a);
     sharing_ground(0, b, 4, 1, &a);
     sharing_independent(0, b, 4, 1, 1, &a);
+    sharing_reason(b, 4, 1, b, 4, 1, &a, &w[0], &w[1]);
     sharing_run(0, b, 4, b, 4);
     sharing_unify_run(0, b, 4, b, 4);
     sharing_start(0, b, 4);
@@ -38,6 +39,7 @@ int main(void) {
     sharing_empty(1, o, 4);
     sharing_unknown_form(0, 1, o, 8);
     sharing_all_free(1, o, 8);
+    sharing_meeting_group(b, 4, 1, 1, &a);
     sharing_rename(0, b, 4, w, 1, o, 4);
     sharing_select(0, b, 4, w, 1, o, 4);
     sharing_add_free(b, 4, 1, o, 4);

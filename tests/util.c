@@ -1015,6 +1015,116 @@ static void cut_walks(void) {
     }
 }
 
+/* ---- Reasons */
+
+/* The number of a set with X1 as its highest bit. Of sets of one size the greatest stands first. */
+static uint32_t turned(uint32_t set) {
+    uint32_t number = 0;
+    for (int i = 0; i < 32; i++)
+        number = number << 1 | (set >> i & 1);
+    return number;
+}
+
+/* The group of few variables that is due: it meets both sets, and no other that does is before. */
+static uint32_t first_meeting(uint32_t groups, uint32_t first, uint32_t second) {
+    uint32_t best = 0, best_size = 0;
+    for (uint32_t s = 1; s < 1u << SMALL; s++) {
+        uint32_t size = (s & 1) + (s >> 1 & 1) + (s >> 2 & 1) + (s >> 3 & 1);
+        if ((groups >> s & 1) == 0 || (s & first) == 0 || (s & second) == 0)
+            continue;
+        if (best == 0 || size < best_size || (size == best_size && turned(s) > turned(best))) {
+            best = s;
+            best_size = size;
+        }
+    }
+    return best;
+}
+
+/* The table with its variables moved up to be the last of l, and the others known. */
+static form moved_up(const form *table, uint32_t l) {
+    sharing_entry entries[SHARING_MAX_ENTRIES];
+    uint32_t n = sharing_word_at(table->bytes, 1), by = l - sharing_word_at(table->bytes, 0);
+    for (uint32_t i = 0; i < n; i++) {
+        entries[i] = sharing_entry_in(table->bytes, i);
+        entries[i].care = entries[i].care << by | ((1u << by) - 1);
+        entries[i].value <<= by;
+    }
+    HOLDS(sharing_make_form(l, entries, n, out, sizeof out) == 0);
+    return taken();
+}
+
+/* The group of each pair of sets, also where these are of the last variables of many. */
+static void meeting_groups(void) {
+    for (int round = 0; round < ROUNDS / 4; round++) {
+        uint32_t l = 1 + any(SMALL), wide = l + any(33 - l), group = 7, answer = 7;
+        form table = random_form(l, any(6)), up = moved_up(&table, wide);
+        uint32_t groups = groups_of(0, &table), by = wide - l;
+        for (uint32_t first = 0; first < 1u << l; first++)
+            for (uint32_t second = 0; second < 1u << l; second++) {
+                uint32_t due = first_meeting(groups, first, second);
+                HOLDS(sharing_meeting_group(table.bytes, table.len, first, second, &group) == 0 &&
+                      group == due);
+                HOLDS(sharing_meeting_group(up.bytes, up.len, first << by, second << by, &group) ==
+                          0 && group == due << by);
+                HOLDS(sharing_independent(0, table.bytes, table.len, first, second, &answer) == 0 &&
+                      answer == (due == 0));
+            }
+    }
+}
+
+/* What is refused, and that nothing is written then. */
+static void refused_groups(void) {
+    const uint8_t loose[] = {2, 0, 1, 0, 1, 0, 2, 0};
+    form table = random_form(7, 3), most = random_form(32, 3);
+    uint32_t group = 99;
+    HOLDS(sharing_meeting_group(loose, sizeof loose, ~0u, ~0u, &group) == SHARING_STRAY);
+    HOLDS(sharing_meeting_group(table.bytes, table.len - 1, 0x80, 0, &group) == SHARING_TORN);
+    HOLDS(sharing_meeting_group(table.bytes, table.len, 0x80, 0, &group) == SHARING_NAME);
+    HOLDS(sharing_meeting_group(table.bytes, table.len, 1, 0x81, &group) == SHARING_NAME);
+    HOLDS(group == 99);
+    HOLDS(sharing_meeting_group(table.bytes, table.len, 0x7f, 0, &group) == 0 && group == 0);
+    HOLDS(sharing_meeting_group(most.bytes, most.len, 0, ~0u, &group) == 0 && group == 0);
+}
+
+/* Does an entry cover a group inside another one that meets a set? By looking at every string. */
+static int covers_inside(sharing_entry entry, uint32_t group, uint32_t set) {
+    for (uint32_t s = group; s > 0; s = (s - 1) & group)
+        if ((s & entry.care) == entry.value && (s & set) != 0)
+            return 1;
+    return 0;
+}
+
+/* The lowest such entry of a form; its number of entries where there is none. */
+static uint32_t lowest_inside(const form *table, uint32_t group, uint32_t set) {
+    uint32_t i = 0, n = sharing_word_at(table->bytes, 1);
+    while (i < n && !covers_inside(sharing_entry_in(table->bytes, i), group, set))
+        i++;
+    return i;
+}
+
+/* The reason of each group of few variables: it is kept or joined exactly where the table after the
+ * equation has it, and the entries of a joined one are the lowest of the table as it is read. */
+static void group_reasons(void) {
+    for (int round = 0; round < ROUNDS; round++) {
+        uint32_t l = 1 + any(SMALL), x = 1 + any(l), set = any(1u << l), told[3];
+        uint8_t term[2 * 16 * SMALL];
+        size_t len = random_term(set, term);
+        form table = random_form(l, any(6));
+        HOLDS(sharing_equation(0, table.bytes, table.len, x, term, len, out, sizeof out) == 0);
+        form after = taken();
+        HOLDS(sharing_read(table.bytes, table.len, out, sizeof out) == 0);
+        form read = taken();
+        for (uint32_t s = 1; s < 1u << l; s++) {
+            HOLDS(sharing_reason(table.bytes, table.len, x, term, len, s, told, told + 1,
+                                 told + 2) == 0);
+            int joined = told[0] == SHARING_JOINED, there = groups_of(0, &after) >> s & 1;
+            HOLDS((told[0] == SHARING_KEPT || joined) == there);
+            HOLDS(told[1] == (joined ? lowest_inside(&read, s, 1u << (x - 1)) : 0));
+            HOLDS(told[2] == (joined ? lowest_inside(&read, s, set) : 0));
+        }
+    }
+}
+
 /* The words of the answers, for tests/c to compare with the header. */
 static int print_words(void) {
     for (uint32_t code = 0; code <= SHARING_DIGIT + 1; code++)
@@ -1023,9 +1133,18 @@ static int print_words(void) {
     return strcmp(sharing_refusal_word(UINT32_MAX), "unknown");
 }
 
+/* Those of the verdicts. */
+static int print_verdicts(void) {
+    for (uint32_t verdict = 0; verdict <= SHARING_NO_SOLUTION + 1; verdict++)
+        printf("%u %s\n", (unsigned)verdict, sharing_verdict_text(verdict));
+    return strcmp(sharing_verdict_text(UINT32_MAX), "no verdict of sharing_reason");
+}
+
 int main(int count, char **words) {
     if (count == 2 && strcmp(words[1], "words") == 0)
         return print_words();
+    if (count == 2 && strcmp(words[1], "verdicts") == 0)
+        return print_verdicts();
     memset(out, FILL, sizeof out);
     lengths();
     packed_lengths();
@@ -1053,6 +1172,9 @@ int main(int count, char **words) {
     wide_goals();
     walks();
     cut_walks();
+    meeting_groups();
+    refused_groups();
+    group_reasons();
     printf("%u cases, %u failed\n", cases, failures);
     return failures == 0 ? EXIT_SUCCESS : EXIT_FAILURE;
 }

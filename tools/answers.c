@@ -22,7 +22,7 @@ static bool is_ground(const point *at, uint32_t variable) {
 }
 
 /* Writes the names of the variables of a set, with a comma between two. */
-static void put_variables(FILE *to, const rules *given, uint32_t set) {
+void put_variables(FILE *to, const rules *given, uint32_t set) {
     bool first = true;
     for (size_t i = 0; i < given->width; i++) {
         if ((set >> i & 1) == 0)
@@ -109,7 +109,7 @@ void put_string(FILE *to, size_t width, sharing_entry entry) {
 }
 
 /* The same, and the variables that it has and may have. */
-static void put_entry(FILE *to, const rules *given, sharing_entry entry) {
+void put_entry(FILE *to, const rules *given, sharing_entry entry) {
     uint32_t either = ~entry.care & sharing_variables((uint32_t)given->width);
     fputs("    ", to);
     put_string(to, given->width, entry);
@@ -208,16 +208,16 @@ rules *open_rules(const char *path) {
 /* ---- Goals */
 
 /* Asks of a point whether goals may run side by side, and writes the answer's line. */
-static int answer(const point *at, const piece names[2], const uint32_t goals[2]) {
+int answer(const point *at, const goal goals[2]) {
     const rules *given = at->given;
     uint32_t yes = 0;
     uint32_t code =
-        sharing_independent(SHARING_POSITIVE, at->form, at->len, goals[0], goals[1], &yes);
+        sharing_independent(SHARING_POSITIVE, at->form, at->len, goals[0].set, goals[1].set, &yes);
     if (!accepted(given, code))
         return STATUS_WRONG;
-    put_piece(stdout, names[0]);
+    put_piece(stdout, goals[0].name);
     fputs(" and ", stdout);
-    put_piece(stdout, names[1]);
+    put_piece(stdout, goals[1].name);
     printf(": %s side by side ", yes ? "may run" : "may not run");
     put_point(stdout, given, at->after);
     put_notes(at, yes ? NULL : "they may share a variable");
@@ -252,15 +252,17 @@ static bool read_goal_variable(const rules *given, const place *where, cursor *c
     return false;
 }
 
-/* A goal: variables with commas between them, or - for none. */
-static bool read_goal(const rules *given, const char *name, const char *goal, uint32_t *set) {
-    place where = {name, 0, from_text(goal)};
+/* A goal: variables with commas between them, or - for none. `which` names it in a message. */
+static bool read_goal(const rules *given, const char *which, const char *text, goal *out) {
+    place where = {which, 0, from_text(text)};
     cursor c = {where.text.at, where.text.at + where.text.len};
-    *set = 0;
-    if (strcmp(goal, "-") == 0)
+    bool none = strcmp(text, "-") == 0;
+    out->name = none ? from_text("no variable") : where.text;
+    out->set = 0;
+    if (none)
         return true;
     do {
-        if (!read_goal_variable(given, &where, &c, set))
+        if (!read_goal_variable(given, &where, &c, &out->set))
             return false;
     } while (take(&c, ','));
     if (peek(&c) == END)
@@ -270,20 +272,19 @@ static bool read_goal(const rules *given, const char *name, const char *goal, ui
     return false;
 }
 
-/* A goal as the answer names it. */
-static piece goal_name(const char *goal) {
-    return from_text(strcmp(goal, "-") == 0 ? "no variable" : goal);
+/* The two goals of the command line. */
+bool read_goals(const rules *given, char *const texts[2], goal out[2]) {
+    return read_goal(given, "sharetext: goal 1", texts[0], &out[0]) &&
+           read_goal(given, "sharetext: goal 2", texts[1], &out[1]);
 }
 
 /* May two goals run side by side at a point? */
-int apart(const rules *given, char *const goals[2], size_t after) {
-    piece names[2] = {goal_name(goals[0]), goal_name(goals[1])};
-    uint32_t sets[2];
+int apart(const rules *given, char *const texts[2], size_t after) {
+    goal goals[2];
     point at;
-    if (!read_goal(given, "sharetext: goal 1", goals[0], &sets[0]) ||
-        !read_goal(given, "sharetext: goal 2", goals[1], &sets[1]) || !reach(given, after, &at))
+    if (!read_goals(given, texts, goals) || !reach(given, after, &at))
         return STATUS_WRONG;
-    return finish(answer(&at, names, sets));
+    return finish(answer(&at, goals));
 }
 
 /* The same question for each pair of the variables of the line vars. */
@@ -295,9 +296,8 @@ int pairs(const rules *given, size_t after) {
         fprintf(stderr, "%s: There is one variable, and so no pair.\n", given->from.name);
     for (size_t i = 0; i < given->named; i++)
         for (size_t j = i + 1; j < given->named; j++) {
-            piece names[2] = {given->variable[i], given->variable[j]};
-            uint32_t sets[2] = {1u << i, 1u << j};
-            if (answer(&at, names, sets) == STATUS_WRONG)
+            const goal goals[2] = {{given->variable[i], 1u << i}, {given->variable[j], 1u << j}};
+            if (answer(&at, goals) == STATUS_WRONG)
                 return STATUS_WRONG;
         }
     return finish(STATUS_YES);

@@ -40,8 +40,8 @@ static const char *const meanings[] = {
         "unlike: two tables have different numbers of variables. "
         "Look at the line `vars` of both files.",
     [SHARING_KEEP] =
-        "keep: a projection keeps no variable, or one above the last. "
-        "Look at the variables that were to be kept.",
+        "keep: a projection keeps no variable, or one above the last, or a group that is asked for "
+        "is empty. Look at the variables that were to be kept, or at those of the group.",
     [SHARING_DIGIT] =
         "digit: a byte of a packed table is 243 or more, or has a digit that is not 0 after the "
         "last variable. Look at what wrote the packed table."};

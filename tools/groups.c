@@ -93,14 +93,6 @@ static void put_row(uint32_t group, size_t width) {
     putchar('\n');
 }
 
-/* How many variables a set has. */
-static size_t size_of(uint32_t set) {
-    size_t size = 0;
-    for (; set != 0; set &= set - 1)
-        size++;
-    return size;
-}
-
 /* Does an entry cover a group that has of the positions before `from` those of `begun`, and so many
  * more variables? */
 static bool goes_on(const entry_list *list, uint32_t begun, size_t from, size_t more) {
@@ -108,7 +100,8 @@ static bool goes_on(const entry_list *list, uint32_t begun, size_t from, size_t 
     uint32_t after = sharing_variables((uint32_t)list->width) & ~before;
     for (size_t i = 0; i < list->count; i++) {
         sharing_entry e = list->entry[i];
-        size_t least = size_of(e.value & after), most = least + size_of(~e.care & after);
+        size_t least = sharing_set_size(e.value & after);
+        size_t most = least + sharing_set_size(~e.care & after);
         if ((begun & e.care) == (e.value & before) && least <= more && more <= most)
             return true;
     }

@@ -9,6 +9,7 @@ void print_usage(FILE *to) {
           "       sharetext explain [FILE]\n"
           "       sharetext apart FILE GOAL GOAL [--after N]\n"
           "       sharetext pairs FILE [--after N]\n"
+          "       sharetext why FILE GOAL GOAL [--after N]\n"
           "       sharetext tables FILE\n"
           "       sharetext show FILE\n"
           "       sharetext form FILE [--after N] [--packed]\n"
@@ -32,6 +33,9 @@ static const char *const commands =
     "                         that it clashes, has no finite solution or is full\n"
     "  apart FILE GOAL GOAL   may the two goals run side by side?\n"
     "  pairs FILE             the same for each pair of the variables of the line vars\n"
+    "  why FILE GOAL GOAL     may the two goals run side by side and, if not, why: which equation\n"
+    "                         made them share, a group with variables of both that it joined, and\n"
+    "                         which entries that came from\n"
     "  tables FILE            the table before the first equation and after each one: its\n"
     "                         entries, with the variables at 1 and perhaps those at *, and\n"
     "                         which variables are known\n"
@@ -101,6 +105,19 @@ static const char *const file_terms =
     "  for each element and one for its end besides the elements. A variable that is a side by\n"
     "  itself counts only where some equation has a variable on neither side.\n";
 
+static const char *const why_they_share =
+    "\n"
+    "Why goals share\n"
+    "  why tells the last equation before which the goals shared nothing; where its two sides are\n"
+    "  walked together, also which of the equations found in it that was. Of the groups with\n"
+    "  variables of both goals after it, why tells the one that show has first, and entries of\n"
+    "  the table before it that cover groups inside that one: the first with the variable of the\n"
+    "  equation, the first with a variable of its term, and then those that add what is missing.\n"
+    "  Of goals that share at every point from the start on, why tells a group of both that was\n"
+    "  there from the start and that no equation has touched, with the first entry that covers\n"
+    "  it. Where there is none, it tells of the groups of both the one that show has first, and\n"
+    "  the equation that joined it last. The library's call for the entries is sharing_reason.\n";
+
 static const char *const free_and_full =
     "\n"
     "What is in no group\n"
@@ -142,9 +159,9 @@ static const char *const free_and_full =
     "  output.\n"
     "\n"
     "Exit status\n"
-    "  0  done; for apart: the goals may run side by side\n"
-    "  1  for apart: they may not; for explain: there was a refusal, a clash, an equation without\n"
-    "     a finite solution or a full one\n"
+    "  0  done; for apart and why: the goals may run side by side\n"
+    "  1  for apart and why: they may not; for explain: there was a refusal, a clash, an equation\n"
+    "     without a finite solution or a full one\n"
     "  2  a mistake in the file or in the arguments, a form that is refused, or no answer because\n"
     "     an equation is full\n";
 
@@ -175,6 +192,7 @@ void print_help(void) {
     fputs(commands, stdout);
     fputs(file_lines, stdout);
     fputs(file_terms, stdout);
+    fputs(why_they_share, stdout);
     fputs(free_and_full, stdout);
     fputs(example, stdout);
 }

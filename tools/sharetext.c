@@ -7,6 +7,7 @@
  *     reader.c    the reader of a file, line by line; terms.c reads its terms
  *     rules.c     what was read, and its written forms
  *     answers.c   what the library answers of it, in words
+ *     why.c       why goals may not run side by side
  *     groups.c    the groups of its tables, as rows of marks
  *     forms.c     the forms of its tables, and a readable file of a form
  *     walks.c     what its equations come to, in words
@@ -14,7 +15,8 @@
  *
  * Every answer is the library's. This program reads, writes an entry for each variable that the
  * file calls free and for each _, lists and counts the groups that the library's entries cover, and
- * tells which equations and clashes are found in two terms, and which equations can never hold.
+ * tells which equations and clashes are found in two terms, and which equations can never hold. It
+ * looks for the equation and the group that the library is to give the reason of.
  */
 #include "answers.h"
 #include "help.h"
@@ -29,7 +31,7 @@ typedef struct {
     bool packed, unify, help;
 } arguments;
 
-typedef enum { INPUT, EXPLAIN, APART, PAIRS, TABLES, SHOW, FORM, TEXT, COMMANDS } command;
+typedef enum { INPUT, EXPLAIN, APART, PAIRS, WHY, TABLES, SHOW, FORM, TEXT, COMMANDS } command;
 
 /* The options, as bits. */
 enum { NONE = 0, AFTER = 1, PACKED = 2, UNIFY = 4 };
@@ -42,6 +44,7 @@ static const struct {
                         [EXPLAIN] = {"explain", 0, 1, NONE},
                         [APART] = {"apart", 3, 3, AFTER},
                         [PAIRS] = {"pairs", 1, 1, AFTER},
+                        [WHY] = {"why", 3, 3, AFTER},
                         [TABLES] = {"tables", 1, 1, NONE},
                         [SHOW] = {"show", 1, 1, NONE},
                         [FORM] = {"form", 1, 1, AFTER | PACKED},
@@ -141,6 +144,8 @@ static int run_on(command c, const rules *given, const arguments *got) {
         return apart(given, got->plain + 1, after);
     if (c == PAIRS)
         return pairs(given, after);
+    if (c == WHY)
+        return why(given, got->plain + 1, after);
     if (c == FORM)
         return write_form(given, after, got->packed);
     return c == TABLES ? tables(given) : show(given);

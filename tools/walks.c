@@ -88,14 +88,8 @@ static void put_head(FILE *to, const rules *given, uint32_t head) {
 
 /* ---- Walks */
 
-/* The two sides of an equation as bytes, and the walk of them. */
-typedef struct {
-    uint8_t bytes[2 * (SHARING_MAX_TOKENS + 1)];
-    sharing_walk walk;
-} two_sides;
-
 /* The walk of an equation before its first step. */
-static void begin_walk(const rules *given, size_t i, two_sides *out) {
+void begin_walk(const rules *given, size_t i, two_sides *out) {
     const equation *e = &given->equation[i];
     write_tokens(given, e->first, e->left + e->right, out->bytes);
     out->walk.left = out->bytes;
@@ -192,14 +186,25 @@ void tell_failures(const rules *given, size_t count) {
 
 /* ---- Each equation of a file */
 
-/* An equation that was found, and what there is to say where its variable is in its own term: has
- * it no finite solution? */
-static bool put_found(const rules *given, size_t i, const sharing_found *found) {
-    uint32_t occurs = sharing_occurs(found->variable, found->term, found->term_len);
-    fputs("    ", stdout);
+/* An equation of the file, with its place, after the words that lead to it. */
+void put_equation(const char *words, const rules *given, size_t i) {
+    printf("%s %zu in line %lu, ", words, i + 1, given->equation[i].where.line);
+    put_piece(stdout, given->equation[i].text);
+}
+
+/* An equation that was found. */
+void put_equals(const rules *given, const sharing_found *found) {
     put_left(stdout, given, found);
     fputs(" = ", stdout);
     put_term(stdout, given, found->term);
+}
+
+/* The same in a line, and what there is to say where its variable is in its own term: has it no
+ * finite solution? */
+static bool put_found(const rules *given, size_t i, const sharing_found *found) {
+    uint32_t occurs = sharing_occurs(found->variable, found->term, found->term_len);
+    fputs("    ", stdout);
+    put_equals(given, found);
     if (occurs == SHARING_OCCURS_ALONE)
         fputs(", which says nothing: the table stays as it is", stdout);
     if (occurs == SHARING_OCCURS_DEEPER)
@@ -252,8 +257,7 @@ int explain_file(const rules *given) {
     bool failed = false;
     uint32_t code = state.code;
     for (size_t i = 0; i < given->equations && code == SHARING_ACCEPTED; i++) {
-        printf("Equation %zu in line %lu, ", i + 1, given->equation[i].where.line);
-        put_piece(stdout, given->equation[i].text);
+        put_equation("Equation", given, i);
         puts(":");
         failed = put_walk(given, i) || failed;
         code = apply(given, i, &state);

@@ -19,6 +19,12 @@ pub trait Calls {
     /// Of a negative table: the side that is harder to answer for.
     fn independent(table: &[u8], first: u32, second: u32, answer: &mut u32) -> u32;
 
+    /// Of a positive table.
+    fn ground(table: &[u8], variable: u32, answer: &mut u32) -> u32;
+
+    /// The answer is the verdict, then the two entries.
+    fn reason(table: &[u8], variable: u32, term: &[u8], group: u32, answer: &mut [u32; 3]) -> u32;
+
     /// The entries of the table of a state.
     fn entries(state: &Self::State) -> usize;
 

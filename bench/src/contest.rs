@@ -26,11 +26,11 @@ pub struct Outcome {
     left: Vec<u64>,
 }
 
-/// What a call leaves: the output that was lent to it, a state or an answer.
+/// What a call leaves: the output that was lent to it, a state or the words of an answer.
 enum Left<'a, C: Calls> {
     Output(&'a [u8]),
     State(&'a C::State),
-    Answer(u32),
+    Answer(&'a [u32]),
 }
 
 impl<C: Calls> Left<'_, C> {
@@ -41,7 +41,7 @@ impl<C: Calls> Left<'_, C> {
                 out.iter().map(|&byte| byte.into()).collect(),
             ),
             Left::State(state) => (Some(C::entries(state)), C::numbers(state)),
-            Left::Answer(answer) => (None, vec![u64::from(*answer)]),
+            Left::Answer(answer) => (None, answer.iter().map(|&word| word.into()).collect()),
         };
         Outcome {
             number,
@@ -83,12 +83,22 @@ fn perform<C: Calls>(input: &Input, out: &mut [u8], mut see: impl FnMut(u32, Lef
         Input::Equal { first, second } => {
             let mut answer = UNTOUCHED.into();
             let number = C::equal(first, second, &mut answer);
-            see(number, Left::Answer(answer));
+            see(number, Left::Answer(&[answer]));
         }
         Input::Independent { table, a, b } => {
             let mut answer = UNTOUCHED.into();
             let number = C::independent(table, *a, *b, &mut answer);
-            see(number, Left::Answer(answer));
+            see(number, Left::Answer(&[answer]));
+        }
+        Input::Ground { table, variable } => {
+            let mut answer = UNTOUCHED.into();
+            let number = C::ground(table, *variable, &mut answer);
+            see(number, Left::Answer(&[answer]));
+        }
+        Input::Reason { table, step, group } => {
+            let mut answer = [UNTOUCHED.into(); 3];
+            let number = C::reason(table, step.variable, &step.term, *group, &mut answer);
+            see(number, Left::Answer(&answer));
         }
     }
 }
@@ -158,13 +168,13 @@ fn reference_answer(input: &Input) -> Option<u32> {
 }
 
 /// The time that each side takes for one pass over some inputs, in a round of about this length.
-/// The other side is plain Rust, or ours on the reads where they are given.
-pub fn times(inputs: &[Input], reads: Option<&[Input]>, long: Duration) -> Times {
+/// The other side is plain Rust, or ours on other inputs where they are given.
+pub fn times(inputs: &[Input], beside: Option<&[Input]>, long: Duration) -> Times {
     let [mut out, mut other_out] = [[0; LONGEST]; 2];
     let ours = || turn::<Ours>(inputs, &mut out);
-    match reads {
+    match beside {
         None => least(long, ours, || turn::<Plain>(inputs, &mut other_out)),
-        Some(reads) => least(long, ours, || turn::<Ours>(reads, &mut other_out)),
+        Some(beside) => least(long, ours, || turn::<Ours>(beside, &mut other_out)),
     }
 }
 

@@ -30,6 +30,14 @@ pub enum Input {
     Equal { first: Vec<u8>, second: Vec<u8> },
     /// Two sets that are asked of a negative table.
     Independent { table: Vec<u8>, a: u32, b: u32 },
+    /// A variable that is asked of a positive table.
+    Ground { table: Vec<u8>, variable: u32 },
+    /// A group whose reason is asked, after an equation on a positive table.
+    Reason {
+        table: Vec<u8>,
+        step: Step,
+        group: u32,
+    },
 }
 
 /// A start, and equations, each on the table that the last one left.
@@ -43,6 +51,15 @@ pub struct Chain {
 pub struct Step {
     pub variable: u32,
     pub term: Vec<u8>,
+}
+
+impl Step {
+    fn of(equation: &Equation) -> Step {
+        Step {
+            variable: equation.left.into(),
+            term: bytes_of(equation.term.iter().copied()),
+        }
+    }
 }
 
 /// Each of these is refused where a table cannot be written.
@@ -76,15 +93,24 @@ impl Input {
     }
 
     pub fn chain(side: Side, table: &Table, equations: &[Equation]) -> Result<Input, Refusal> {
-        let step = |equation: &Equation| Step {
-            variable: equation.left.into(),
-            term: bytes_of(equation.term.iter().copied()),
-        };
         Ok(Input::Chain(Chain {
             side,
             table: form(table.l, &table.entries)?,
-            steps: equations.iter().map(step).collect(),
+            steps: equations.iter().map(Step::of).collect(),
         }))
+    }
+
+    pub fn ground(table: &Table, variable: u32) -> Result<Input, Refusal> {
+        let table = form(table.l, &table.entries)?;
+        Ok(Input::Ground { table, variable })
+    }
+
+    pub fn reason(table: &Table, equation: &Equation, group: u32) -> Result<Input, Refusal> {
+        Ok(Input::Reason {
+            table: form(table.l, &table.entries)?,
+            step: Step::of(equation),
+            group,
+        })
     }
 
     pub fn question(question: &Question) -> Result<Input, Refusal> {
@@ -112,7 +138,9 @@ impl Input {
             | Input::Unify { table, .. }
             | Input::Chain(Chain { table, .. })
             | Input::Equal { first: table, .. }
-            | Input::Independent { table, .. } => form_entries(table),
+            | Input::Independent { table, .. }
+            | Input::Ground { table, .. }
+            | Input::Reason { table, .. } => form_entries(table),
         }
     }
 }

@@ -8,7 +8,7 @@ use support::Random;
 
 use crate::input::Input;
 use crate::questions::{self, Sort};
-use crate::{drawing, many, tables};
+use crate::{drawing, many, reasons, tables};
 
 /// The number of variables of most inputs.
 pub const L: u32 = 12;
@@ -55,14 +55,21 @@ pub struct Row {
     /// The part above which `--check` fails.
     pub bound: f64,
     pub inputs: Vec<Input>,
-    /// For each input that reads or writes a packed form, the read of the same table's plain form,
-    /// with which ours is compared too.
-    pub reads: Option<Vec<Input>>,
+    /// With what ours is compared too.
+    pub beside: Option<Beside>,
+}
+
+/// Another call on the same tables.
+pub struct Beside {
+    /// Its name, without `sharing_`.
+    pub call: &'static str,
+    /// One input for each of the row.
+    pub inputs: Vec<Input>,
 }
 
 impl Row {
     /// A row; a refusal says that an input cannot be made.
-    fn new<I>(name: String, goal: f64, inputs: I) -> Result<Row, Refusal>
+    pub fn new<I>(name: String, goal: f64, inputs: I) -> Result<Row, Refusal>
     where
         I: IntoIterator<Item = Result<Input, Refusal>>,
     {
@@ -71,28 +78,31 @@ impl Row {
             goal,
             bound: MARGIN * goal,
             inputs: inputs.into_iter().collect::<Result<_, _>>()?,
-            reads: None,
+            beside: None,
         })
     }
 
     /// The row with another bound.
-    fn bounded(self, bound: f64) -> Row {
+    pub fn bounded(self, bound: f64) -> Row {
         Row { bound, ..self }
     }
 
-    /// The row with reads of the tables of its inputs.
-    fn beside_reading(self, tables: &[Table]) -> Result<Row, Refusal> {
-        let read = |table: &Table| Input::read(table.l, &table.entries);
-        let reads = tables.iter().map(read).collect::<Result<_, _>>()?;
+    /// The row with another call on the tables of its inputs.
+    pub fn beside<I>(self, call: &'static str, inputs: I) -> Result<Row, Refusal>
+    where
+        I: IntoIterator<Item = Result<Input, Refusal>>,
+    {
+        let inputs = inputs.into_iter().collect::<Result<_, _>>()?;
         Ok(Row {
-            reads: Some(reads),
+            beside: Some(Beside { call, inputs }),
             ..self
         })
     }
 }
 
 /// All rows: growing by rising density of stars, converting, changes of side, one equation, chains
-/// of equations, the questions, packed forms, two terms; then those of more than 16 variables.
+/// of equations, the questions, packed forms, two terms; then those of more than 16 variables, and the
+/// reasons behind groups.
 pub fn rows() -> Result<Vec<Row>, Refusal> {
     let mut random = Random::from_state(SEED);
     let mut later = Random::from_state(LATER_SEED);
@@ -121,6 +131,7 @@ pub fn rows() -> Result<Vec<Row>, Refusal> {
     }
     rows.extend(walks(&mut Random::from_state(WALK_SEED))?);
     rows.extend(many::rows()?);
+    rows.extend(reasons::rows()?);
     Ok(rows)
 }
 
@@ -291,7 +302,8 @@ pub fn packing(random: &mut Random, l: u32, counts: &[usize]) -> Result<Vec<Row>
         for (call, input) in PACKING {
             let name = format!("{call} {count} of {l}");
             let row = Row::new(name, 1.00, tables.iter().map(input))?;
-            rows.push(row.beside_reading(&tables)?);
+            let read = |table: &Table| Input::read(table.l, &table.entries);
+            rows.push(row.beside("read", tables.iter().map(read))?);
         }
     }
     Ok(rows)

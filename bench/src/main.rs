@@ -12,6 +12,7 @@ mod many;
 mod ours;
 mod plain;
 mod questions;
+mod reasons;
 mod results;
 mod summary;
 mod tables;

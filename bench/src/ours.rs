@@ -65,6 +65,18 @@ impl Calls for Ours {
         unsafe { sharing_independent(side, table, len, first, second, answer) }
     }
 
+    fn ground(table: &[u8], variable: u32, answer: &mut u32) -> u32 {
+        let (side, table, len) = (Side::Positive.number(), table.as_ptr(), table.len());
+        unsafe { sharing_ground(side, table, len, variable, answer) }
+    }
+
+    fn reason(table: &[u8], variable: u32, term: &[u8], group: u32, answer: &mut [u32; 3]) -> u32 {
+        let (table, len) = (table.as_ptr(), table.len());
+        let (term, term_len) = (term.as_ptr(), term.len());
+        let [verdict, x, t] = answer;
+        unsafe { sharing_reason(table, len, variable, term, term_len, group, verdict, x, t) }
+    }
+
     fn entries(state: &State) -> usize {
         state.table.n
     }

@@ -56,6 +56,15 @@ impl Calls for Plain {
         answer_with(independent(table, first, second), answer)
     }
 
+    fn ground(table: &[u8], variable: u32, answer: &mut u32) -> u32 {
+        byte_calls::ground(Side::Positive.number(), table, variable, answer)
+    }
+
+    fn reason(table: &[u8], variable: u32, term: &[u8], group: u32, answer: &mut [u32; 3]) -> u32 {
+        let [verdict, x_entry, t_entry] = answer;
+        byte_calls::reason(table, variable, term, group, verdict, x_entry, t_entry)
+    }
+
     fn entries(state: &Running) -> usize {
         state.table.entries.len()
     }

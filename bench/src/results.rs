@@ -3,8 +3,7 @@
 use std::time::Duration;
 
 use crate::contest;
-use crate::input::Input;
-use crate::load::Row;
+use crate::load::{Beside, Row};
 use crate::timing::{rounds, Times};
 
 /// Where samples are long, a round of a row ends once a side has taken this long.
@@ -16,14 +15,14 @@ const REPEATED: usize = 8;
 /// The same for one such input.
 const LONG_REPEATED: Duration = Duration::from_millis(100);
 
-/// What packing and unpacking may take, as a multiple of reading the plain form: goal and bound.
-const READING: f64 = 2.0;
+/// What a call may take, as a multiple of the other one on the same tables: goal and bound.
+const BESIDE: f64 = 2.0;
 
 /// A row with its least times, of one pass over its inputs.
 pub struct Measured<'a> {
     row: &'a Row,
-    /// The reads that are the other side, where that is not plain Rust.
-    reads: Option<&'a [Input]>,
+    /// The other side, where that is not plain Rust.
+    beside: Option<&'a Beside>,
     /// The inputs take turns: a new one each time, as in use.
     in_turn: Times,
     /// Each of the first inputs again and again, whose branches the processor then knows.
@@ -31,11 +30,11 @@ pub struct Measured<'a> {
 }
 
 impl<'a> Measured<'a> {
-    /// The row before its first round, against plain Rust or against some reads.
-    fn unknown(row: &'a Row, reads: Option<&'a [Input]>) -> Measured<'a> {
+    /// The row before its first round, against plain Rust or against another call.
+    fn unknown(row: &'a Row, beside: Option<&'a Beside>) -> Measured<'a> {
         Measured {
             row,
-            reads,
+            beside,
             in_turn: Times::UNKNOWN,
             repeated: vec![Times::UNKNOWN; REPEATED],
         }
@@ -44,19 +43,25 @@ impl<'a> Measured<'a> {
     /// One more round.
     fn round(&mut self) {
         let inputs = &self.row.inputs;
-        self.in_turn = self.in_turn.min(contest::times(inputs, self.reads, LONG));
+        let others = self.beside.map(|beside| &beside.inputs[..]);
+        self.in_turn = self.in_turn.min(contest::times(inputs, others, LONG));
         for (i, times) in self.repeated.iter_mut().enumerate() {
-            let read = self.reads.map(|reads| &reads[i..=i]);
-            *times = times.min(contest::times(&inputs[i..=i], read, LONG_REPEATED));
+            let other = others.map(|others| &others[i..=i]);
+            *times = times.min(contest::times(&inputs[i..=i], other, LONG_REPEATED));
         }
     }
 
     /// What the ratios shall be, and above what `--check` fails.
     fn goal_and_bound(&self) -> (f64, f64) {
-        match self.reads {
+        match self.beside {
             None => (self.row.goal, self.row.bound),
-            Some(_) => (READING, READING),
+            Some(_) => (BESIDE, BESIDE),
         }
+    }
+
+    /// The other side, for the head of its column.
+    fn other(&self) -> &str {
+        self.beside.map_or("plain", |beside| beside.call)
     }
 
     /// The time of ours as a part of the time of the other side, in turn and repeated.
@@ -74,22 +79,22 @@ impl<'a> Measured<'a> {
     }
 }
 
-/// Times the rows: all against plain Rust, and those that have reads against these too.
+/// Times the rows: all against plain Rust, and some against another call too.
 pub fn measure(rows: &[Row]) -> Vec<Measured<'_>> {
     let plain = rows.iter().map(|row| Measured::unknown(row, None));
-    let beside = rows.iter().filter(|row| row.reads.is_some());
-    let reading = beside.map(|row| Measured::unknown(row, row.reads.as_deref()));
-    let mut results: Vec<Measured> = plain.chain(reading).collect();
+    let beside = rows.iter().filter(|row| row.beside.is_some());
+    let beside = beside.map(|row| Measured::unknown(row, row.beside.as_ref()));
+    let mut results: Vec<Measured> = plain.chain(beside).collect();
     rounds(&mut results, Measured::round);
     results
 }
 
-/// Prints the rows against plain Rust, those against reading, and last how many reach their goal.
+/// Prints the rows against plain Rust, those against each other call, and last how many reach their
+/// goal.
 pub fn print(results: &[Measured]) {
-    let (plain, reading): (Vec<_>, Vec<_>) =
-        results.iter().partition(|result| result.reads.is_none());
-    print_lines("plain us", &plain);
-    print_lines("read us", &reading);
+    results
+        .chunk_by(|a, b| a.other() == b.other())
+        .for_each(print_lines);
     let reached = results
         .iter()
         .filter(|result| result.worst() <= result.goal_and_bound().0);
@@ -100,11 +105,18 @@ pub fn print(results: &[Measured]) {
     );
 }
 
-/// Prints a line for each row, in microseconds for one input in turn.
-fn print_lines(other: &str, results: &[&Measured]) {
+/// Prints a line for each row against the same side, in microseconds for one input in turn.
+fn print_lines(results: &[Measured]) {
+    let other = results.first().map_or("", Measured::other);
     println!(
-        "{:<32} {other:>9} {:>9} {:>7} {:>8} {:>5} {:>5}",
-        "row", "ours us", "in turn", "repeated", "goal", "bound"
+        "{:<32} {:>9} {:>9} {:>7} {:>8} {:>5} {:>5}",
+        "row",
+        format!("{other} us"),
+        "ours us",
+        "in turn",
+        "repeated",
+        "goal",
+        "bound"
     );
     for result in results {
         let row = result.row;
@@ -128,7 +140,6 @@ pub fn above_bounds(results: &[Measured]) -> Vec<String> {
 
 /// The line of one row.
 fn above_bound(result: &Measured) -> String {
-    let other = result.reads.map_or("", |_| ", beside reading,");
-    let (name, ratio) = (&result.row.name, result.worst());
-    format!("{name}{other} is above its bound: {ratio:.4}")
+    let (name, other, ratio) = (&result.row.name, result.other(), result.worst());
+    format!("{name}, against {other}, is above its bound: {ratio:.4}")
 }

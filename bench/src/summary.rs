@@ -37,6 +37,10 @@ impl Summary<'_> {
             let place = |difference| format!("{}, input {}: {difference}", row.name, i + 1);
             outcomes.push(contest::outcomes(input).map_err(place)?);
         }
+        for input in row.beside.iter().flat_map(|beside| &beside.inputs) {
+            let place = |difference| format!("{}, beside it: {difference}", row.name);
+            contest::outcomes(input).map_err(place)?;
+        }
         let last = outcomes.iter().filter_map(|calls| calls.last());
         let accepted = last.filter(|last| last.number == 0);
         let calls = || outcomes.iter().flat_map(|calls| after_start(calls));

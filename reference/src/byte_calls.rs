@@ -5,6 +5,7 @@ use crate::forms::{read_front, read_table, read_tokens, read_two_tokens, write_t
 use crate::operations;
 use crate::packed::{read_packed, write_packed};
 use crate::questions;
+use crate::reasons;
 use crate::refusal::{number_of, Refusal};
 use crate::table::{Side, Table};
 
@@ -107,6 +108,27 @@ pub fn independent(side: u32, table: &[u8], first: u32, second: u32, answer: &mu
     let outcome = read_table(table)
         .and_then(|table| questions::independent(Side::of_number(side), &table, first, second));
     answer_with(outcome, answer)
+}
+
+/// The reason behind a group after an equation on a positive table: the table, the term's bytes (7,
+/// 1), the variable, the tokens, the group (4, 11). The answer is three words.
+pub fn reason(
+    table: &[u8],
+    variable: u32,
+    term: &[u8],
+    group: u32,
+    verdict: &mut u32,
+    x_entry: &mut u32,
+    t_entry: &mut u32,
+) -> u32 {
+    let outcome = read_table(table).and_then(|table| {
+        let tokens = read_tokens(term)?;
+        reasons::reason(&table, variable, &tokens, group)
+    });
+    if let Ok(reason) = outcome {
+        [*verdict, *x_entry, *t_entry] = reason.numbers();
+    }
+    number_of(&outcome)
 }
 
 /// Of two buffers that begin with a positive and a negative form, the form with fewer entries

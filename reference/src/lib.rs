@@ -17,6 +17,7 @@ pub mod growth;
 pub mod operations;
 pub mod packed;
 pub mod questions;
+pub mod reasons;
 pub mod refusal;
 pub mod report;
 pub mod running;
@@ -27,6 +28,7 @@ pub mod unification;
 
 pub use binary::{groups, GroupSet};
 pub use entry::Entry;
+pub use reasons::{Absence, Reason};
 pub use refusal::Refusal;
 pub use report::{report, Report};
 pub use running::Running;

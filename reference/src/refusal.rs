@@ -23,7 +23,7 @@ pub enum Refusal {
     Narrow = 9,
     /// Two tables of different l.
     Unlike = 10,
-    /// Projection onto no variable, or onto one above l.
+    /// Projection onto no variable, or onto one above l; a group of no variable.
     Keep = 11,
     /// A packed byte of 243 or more, or an unused digit that is not 0.
     Digit = 12,

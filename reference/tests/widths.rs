@@ -9,8 +9,9 @@ use reference::forms::{
     add_words, bytes_of, form_of, read_front, read_table, table_length, word_length,
 };
 use reference::packed::read_packed;
-use reference::terms::{head, is_head};
-use reference::{byte_calls, operations, questions, report, Entry, Equation, Refusal, Side, Table};
+use reference::terms::{head, is_head, kind};
+use reference::{byte_calls, operations, questions, reasons, report};
+use reference::{Entry, Equation, Reason, Refusal, Side, Table};
 use support::tables::{form, packed, EDGES, LONGEST};
 use support::{Equations, Random};
 
@@ -23,15 +24,16 @@ fn one_entry(l: u32, care: u32, value: u32) -> Vec<u8> {
 }
 
 /// The numbers that all calls on one table's bytes answer.
-fn answers(bytes: &[u8]) -> [u32; 6] {
+fn answers(bytes: &[u8]) -> [u32; 7] {
     let term = bytes_of([head(1, 0)]);
     let mut out = [0; LONGEST];
-    let mut answer = 0;
+    let (mut answer, [mut x_entry, mut t_entry]) = (0, [0; 2]);
     [
         byte_calls::read(bytes, &mut out),
         byte_calls::pack(bytes, &mut out),
         byte_calls::equation(0, bytes, 1, &term, &mut out),
         byte_calls::ground(1, bytes, 1, &mut answer),
+        byte_calls::reason(bytes, 1, &term, 1, &mut answer, &mut x_entry, &mut t_entry),
         byte_calls::start(0, bytes).code,
         byte_calls::run(1, bytes, &bytes_of([0, 0])).code,
     ]
@@ -66,7 +68,7 @@ fn l_32_is_taken_and_33_refused() {
         let given = Table::all_star(l);
         assert_eq!(read_table(&form(&given)), Ok(given.clone()));
         assert_eq!(read_packed(&packed(&given)), Ok(given.clone()));
-        assert_eq!(answers(&form(&given)), [0; 6]);
+        assert_eq!(answers(&form(&given)), [0; 7]);
         let group = 1 << (l - 1);
         let one = operations::convert(l, &[group]).expect("accepted");
         assert_eq!(one.entries, [Entry::of_group(l, group)]);
@@ -74,7 +76,7 @@ fn l_32_is_taken_and_33_refused() {
     for l in [0, 33, 48, 64, 0x120, u16::MAX] {
         for length in [4, 8, 12] {
             let bytes = [bytes_of([l, 1]), vec![0; length - 4]].concat();
-            assert_eq!(answers(&bytes), [2; 6]);
+            assert_eq!(answers(&bytes), [2; 7]);
             assert_eq!(read_packed(&bytes), Err(Refusal::Width));
         }
         let l = u32::from(l);
@@ -119,7 +121,7 @@ fn words_of_the_other_width_are_torn() {
                 form
             });
             assert!(read_table(&right).is_ok());
-            assert_eq!(answers(&wrong), [1; 6]);
+            assert_eq!(answers(&wrong), [1; 7]);
         }
     }
 }
@@ -139,7 +141,7 @@ fn every_bit_of_a_word() {
             ] {
                 let entry = Entry { care, value };
                 let number = if good { 0 } else { 4 };
-                assert_eq!(answers(&one_entry(l, care, value)), [number; 6]);
+                assert_eq!(answers(&one_entry(l, care, value)), [number; 7]);
                 let entries = vec![entry];
                 assert_eq!(Table { l, entries }.check().is_ok(), good);
                 if good && !entry.is_zero(l) {
@@ -165,6 +167,17 @@ fn x32_in_every_word() {
         assert_eq!(asked, Ok(answer));
     }
     assert_eq!(questions::ground(Side::Positive, &given, 32), Ok(false));
+    for (x, y, group, due) in [
+        (1, 32, top | 1, [1, 0, 1]),
+        (32, 1, top | 3, [1, 1, 0]),
+        (32, 1, top, [3, 0, 0]),
+        (2, 3, top, [0, 0, 0]),
+        (2, 3, top | 1, [5, 0, 0]),
+        (1, 32, top | 5, [4, 0, 0]),
+    ] {
+        let told = reasons::reason(&given, x, &[y], group);
+        assert_eq!(told.map(Reason::numbers), Ok(due));
+    }
     let after = operations::equation(Side::Positive, &given, 1, &[head(1, 1), 32]);
     assert_eq!(
         after.map(|table| table.entries),
@@ -182,6 +195,8 @@ fn x32_in_every_word() {
     assert_eq!(operations::convert(31, &[1, top]), Err(Refusal::Stray));
     let asked = questions::independent(Side::Positive, &narrow, top, 1);
     assert_eq!(asked, Err(Refusal::Name));
+    let told = reasons::reason(&narrow, 1, &[2], top | 1);
+    assert_eq!(told, Err(Refusal::Stray));
 }
 
 /// A few of 32 variables, X32 among them.
@@ -242,10 +257,11 @@ impl Few {
 }
 
 /// What is known of a few variables is known of them wherever they stand among 32, the others being
-/// ground: positive operations give the same groups.
+/// ground: positive operations give the same groups, and the reason behind a group is the same.
 #[test]
 fn few_of_32_variables() {
     use operations::{equation, join, projection};
+    use reasons::{by_groups, reason};
     for seed in 0..2000 {
         let mut random = Random::new(seed + 83);
         let few = Few::draw(&mut random);
@@ -270,6 +286,10 @@ fn few_of_32_variables() {
             questions::equal(&first, &second),
             questions::equal(&wide[0], &wide[1])
         );
+        let group = random.set(l).max(1);
+        let told = by_groups(&first, x.into(), kind(x.into(), &term), group);
+        let wide_told = reason(&wide[0], wide_x.into(), &wide_term, few.set(group));
+        assert_eq!(wide_told, Ok(told));
     }
 }
 

@@ -87,7 +87,7 @@ Table ${at[2]}:
     110  Baptism, Wedding
     known: Parish" "" tables "$file"
     for point in 3 65 4294967298 -1 x 1x "" " 1" 1.0; do
-        for command in pairs apart; do
+        for command in pairs apart why; do
             goals=()
             [[ $command == pairs ]] || goals=(Baptism -)
             asked 2 "" "sharetext: --after $point is no point of $file.
@@ -186,8 +186,10 @@ wrong_goal() {
     $1
     $(times $(($2 - 1)) ' ')$(times "$3" ^)
     Expected: $5."
-    asked 2 "" "sharetext: goal 1, $said" apart "$file" "$1" Wedding
-    asked 2 "" "sharetext: goal 2, $said" apart "$file" - "$1" --after 1
+    for command in apart why; do
+        asked 2 "" "sharetext: goal 1, $said" "$command" "$file" "$1" Wedding
+        asked 2 "" "sharetext: goal 2, $said" "$command" "$file" - "$1" --after 1
+    done
 }
 
 wrong_goals() {
@@ -209,8 +211,10 @@ wrong_goals() {
     wrong_goal "Parish;Wedding" 7 1 "';' cannot stand here." "$more"
     # The file comes first: without it no goal can be read.
     printf 'vars 3\n\nX1 = f(\n' >"$file"
-    run apart "$file" Y Z
-    same "apart of a wrong file" "2 $file:3:8: $early" "$status $(head -n 1 "$err")"
+    for command in apart why; do
+        run "$command" "$file" Y Z
+        same "$command of a wrong file" "2 $file:3:8: $early" "$status $(head -n 1 "$err")"
+    done
 }
 
 # ---- Full equations
@@ -235,9 +239,11 @@ full() {
     the all-star table, where every variable may share with every other: $(times 16 '*')
     Before it answers are given (--after 1), from what was known after equation 1, X1 = X1:
 $(for i in {1..15}; do echo "    $(times $((i - 1)) 0)11$(times $((15 - i)) 0)  X$i, X$((i + 1))"; done)"
-    asked 2 "" "$said" apart "$file" X1 X2
-    asked 2 "" "$said" apart "$file" X1 X2 --after 2
-    asked 2 "" "$said" apart "$file" - - --after 3
+    for command in apart why; do
+        asked 2 "" "$said" "$command" "$file" X1 X2
+        asked 2 "" "$said" "$command" "$file" X1 X2 --after 2
+        asked 2 "" "$said" "$command" "$file" - - --after 3
+    done
     asked 2 "" "$said" pairs "$file"
     asked 0 "X1 and X3: $yes after equation 1, X1 = X1" "" apart "$file" X1 X3 --after 1
     asked 1 "X1 and X1: $no before the first equation $shared" "" apart "$file" X1 X1 --after 0

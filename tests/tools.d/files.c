@@ -6,8 +6,8 @@
  *
  * writes for each K from 0: K.txt a good file; K.words what `input` writes or, where an equation has
  * a variable on neither side, K.unify what `input --unify` writes; K.after.N what `pairs` prints
- * after N equations, for each N; K.show what `show` prints; and K.bad, the file with a few bytes
- * changed.
+ * after N equations, for each N; K.show what `show` prints; K.why how `why` begins for pairs of the
+ * variables in its equations; and K.bad, the file with a few bytes changed.
  */
 #include <stdarg.h>
 #include <stdbool.h>
@@ -487,12 +487,21 @@ static uint32_t variables_at(size_t at) {
  * set equal to a term that has it deeper; 0 where there is none. */
 typedef struct { unsigned left, right, variable; } failure;
 
+/* Each equation that is found: the number of the one of the file, from 1, the variables of the groups
+ * that it touches, and the groups before it. */
+enum { STEPS = 1000 };
+static struct { unsigned number; uint32_t touches; groups before; } trail[STEPS];
+static unsigned steps, present;
+
 /* The groups after a variable is set equal to the term at a place. One set equal to itself changes
  * nothing, and a term that has it deeper leaves no group. */
 static void set_equal(unsigned variable, size_t term, groups *now, failure *found) {
     uint32_t left = 1u << (variable - 1), right = variables_at(term);
     if (file.token[term] == variable)
         return;
+    trail[steps].number = present;
+    trail[steps].touches = left | right;
+    trail[steps++].before = *now;
     if ((left & right) == 0) {
         *now = after_one(*now, left, right);
         return;
@@ -662,6 +671,7 @@ static void write_show(FILE *to, const point *at, const groups *start) {
 /* Goes on behind the next equation. */
 static void step(point *at) {
     failure found;
+    present = at->after + 1;
     at->now = after_equation(at->now, &file.equation[at->after++], &found);
     if ((found.left != 0 || found.variable != 0) && at->number == 0) {
         at->number = at->after;
@@ -669,11 +679,90 @@ static void step(point *at) {
     }
 }
 
-/* What `pairs` and `show` print at each point. */
+/* ---- Why two variables share */
+
+/* The first group, in the order of `show`, that has both variables and none of a set; 0 is none. */
+static uint32_t first_of_both(const groups *now, const unsigned pair[2], uint32_t without) {
+    groups both = {0, {0}};
+    for (unsigned k = 0; k < now->count; k++)
+        if ((now->group[k] >> pair[0] & now->group[k] >> pair[1] & 1) != 0 &&
+            (now->group[k] & without) == 0)
+            add_group(&both, now->group[k]);
+    for (unsigned size = 1; size <= file.width; size++)
+        if (next_group(&both, size, "~") != 0)
+            return next_group(&both, size, "~");
+    return 0;
+}
+
+/* A line with a group, as `why` has it. */
+static void write_group(FILE *to, uint32_t group) {
+    const char *before = "  ";
+    fputs("    ", to);
+    for (unsigned i = 0; i < file.width; i++)
+        fputc("01"[group >> i & 1], to);
+    for (unsigned i = 0; i < file.width; i++)
+        if ((group >> i & 1) != 0) {
+            fprintf(to, "%s%s", before, i < file.named ? file.name[i] : "_");
+            before = ", ";
+        }
+    fputc('\n', to);
+}
+
+/* Do two variables share in the groups before a step? The last step is followed by the last groups. */
+static bool share_before(unsigned k, const point *at, const unsigned pair[2]) {
+    return first_of_both(k < steps ? &trail[k].before : &at->now, pair, 0) != 0;
+}
+
+/* The beginning of what is told where they shared at the start and at every point since. */
+static void write_always(FILE *to, const point *at, const groups *start, const unsigned pair[2]) {
+    uint32_t touched = 0, group;
+    unsigned k = steps;
+    for (unsigned i = 0; i < steps; i++)
+        touched |= trail[i].touches;
+    group = first_of_both(start, pair, touched);
+    if (group != 0) {
+        fprintf(to, "They share from the start, by this group%s:\n",
+                at->after > 0 ? ", which no equation has touched" : "");
+        write_group(to, group);
+        return;
+    }
+    group = first_of_both(&at->now, pair, 0);
+    while ((trail[--k].touches & group) == 0) {
+    }
+    fprintf(to, "They shared from the start already, and share now by equation %u:\n",
+            trail[k].number);
+    write_group(to, group);
+}
+
+/* The beginning of what `why` says of two variables at the last point. They came to share by the last
+ * equation before which they shared nothing, and in that by the last step that is so. */
+static void write_why(FILE *to, const point *at, const groups *start, const unsigned pair[2]) {
+    unsigned k = steps, number = 0;
+    write_pair(to, at, start, pair);
+    if (!share_before(steps, at, pair)) {
+        fputs("There is nothing to explain: no group has variables of both.\n", to);
+        return;
+    }
+    for (unsigned i = 0; i < steps; i++)
+        if ((i == 0 || trail[i].number != trail[i - 1].number) && !share_before(i, at, pair))
+            number = trail[i].number;
+    if (number == 0) {
+        write_always(to, at, start, pair);
+        return;
+    }
+    /* From the end back to its last step after which they share and before which they do not. */
+    while (k == steps || trail[k].number > number || share_before(k, at, pair))
+        k--;
+    fprintf(to, "Equation %u made them share:\n", number);
+    write_group(to, first_of_both(k + 1 < steps ? &trail[k + 1].before : &at->now, pair, 0));
+}
+
+/* What `pairs` and `show` print at each point, and how `why` begins at the last. */
 static void write_points(const char *folder, unsigned number) {
     groups start = start_groups();
     point at = {0, 0, {0, 0, 0}, start};
-    FILE *shown = open_result(folder, number, "show");
+    FILE *shown = open_result(folder, number, "show"), *reasons;
+    steps = 0;
     for (unsigned after = 0; after <= file.equations; after++) {
         char kind[20];
         FILE *to;
@@ -688,6 +777,11 @@ static void write_points(const char *folder, unsigned number) {
         fclose(to);
     }
     fclose(shown);
+    reasons = open_result(folder, number, "why");
+    for (unsigned i = 0; i < file.lives; i++)
+        for (unsigned j = 0; j < i; j++)
+            write_why(reasons, &at, &start, (unsigned[]){file.live[i], file.live[j]});
+    fclose(reasons);
 }
 
 /* The file with one to three places changed. */

@@ -41,8 +41,27 @@ good_file() {
     done
     run show "$file"
     same "groups of $file" "0 " "$status $(cmp "$folder/$1.show" "$out" 2>&1)"
+    good_reasons "$1"
     many=$((many + ($(head -n 1 < <(cat "$folder/$1".[wu]* | words)) > 16)))
     same_form "$file" "$folder/$1.words"
+}
+
+# What `why` says of file $1 begins as the plain sets of groups have it. The entries that it names are of the table before the equation that it
+# names, unless that is one found in two terms, between whose tables no command shows any.
+good_reasons() {
+    local first second said
+    "$program" tables "$file" >"$scratch/tables" 2>"$scratch/ignored"
+    : >"$scratch/given"
+    while read -r first _ second said; do
+        run why "$file" "$first" "${second%:}"
+        same "status of why $file $first ${second%:}" "$([[ $said == "may run "* ]] && echo 0 || echo 1)" "$status"
+        sed -nE 's/^(Equation [0-9]+) in line .*, made them share\. .* joined this group:$/\1 made them share:/
+            s/^(They shared .* by equation [0-9]+) in line .* joined this group:$/\1:/; 1,3p' "$out" >>"$scratch/given"
+        grep -q '\. In it .* joined this group:$' "$out" ||
+            same "the entries of why $file $first ${second%:}" "" "$(sed -n '4,$p' "$out" | grep '^    ' | grep -vxFf "$scratch/tables" || true)"
+        reasons=$((reasons + $(grep -cE '^(Equation|They share)' "$out" || true)))
+    done < <(grep ' run side by side ' "$folder/$1.why")
+    same "what why says of $file" "" "$(diff "$folder/$1.why" "$scratch/given" 2>&1)"
 }
 
 # The last run, $1, had no output, the status 2 and said that sharerun does not read an equation, at its place; before that it may have
@@ -113,12 +132,14 @@ bad_file() {
         run $command "$file"
         told_place "$command $file"
     done
-    run apart "$file" - -
-    told_place "apart $file"
+    for command in apart why; do
+        run "$command" "$file" - -
+        told_place "$command $file"
+    done
 }
 
 random_files() {
-    local folder=$scratch/random i answers=0 refusing=0 terms=0 clashing=0 unsolved=0 idle=0 many=0 taken=0 told=0
+    local folder=$scratch/random i answers=0 refusing=0 terms=0 clashing=0 unsolved=0 idle=0 reasons=0 many=0 taken=0 told=0
     mkdir -p "$folder"
     gcc "${strict[@]}" "${sanitize[@]}" tests/tools.d/files.c -o "$built/files"
     "$built/files" "$folder" 80 "$1"
@@ -128,9 +149,9 @@ random_files() {
     done
     file=$scratch/file
     # Files of each kind were among them.
-    same "random answers, with some no, files of two terms, with clashes, with equations that never hold, equations that say nothing, \
-files of more than 16 variables, and changed files taken and told: $answers $refusing $terms $clashing $unsolved $idle $many $taken $told" 1 \
-        $((answers > 160 && refusing > 40 && terms > 14 && clashing > 4 && unsolved > 4 && idle > 4 && many > 14 && taken > 10 && told > 40))
+    same "random answers, with some no, files of two terms, with clashes, with equations that never hold, equations that say nothing, reasons, \
+files of more than 16 variables, and changed files taken and told: $answers $refusing $terms $clashing $unsolved $idle $reasons $many $taken $told" 1 \
+        $((answers > 160 && refusing > 40 && terms > 14 && clashing > 4 && unsolved > 4 && idle > 4 && reasons > 40 && many > 14 && taken > 10 && told > 40))
 }
 
 # Bytes of any kind: the program must end by itself, with no report of a sanitizer, and say something.

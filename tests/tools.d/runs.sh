@@ -8,7 +8,7 @@ usage() { "$program" --help | sed '/^$/,$d'; }
 wrong_runs() {
     cp examples/parish.txt "$file"
     same "the commands of the usage" "$commands --help" "$(usage | sed 's/.*sharetext //; s/ .*//' | grep -v version | xargs)"
-    for arguments in "" "input" "input a b" "explain a b" "explain --unify" "pairs $file --unify" "input $file --unify --unify" "input $file --packed" "apart $file X1" "apart $file X1 X2 X3" "inputs $file" "-" "--after 1" "-h" \
+    for arguments in "" "input" "input a b" "explain a b" "explain --unify" "pairs $file --unify" "input $file --unify --unify" "input $file --packed" "apart $file X1" "apart $file X1 X2 X3" "why" "why $file" "why $file X1" "why $file X1 X2 X3" "why $file X1 X2 --packed" "why $file X1 X2 --after" "inputs $file" "-" "--after 1" "-h" \
         "pairs" "pairs $file X1" "pairs $file --after" "pairs $file --after 1 --after 1" "pairs --before 1 $file" "tables" "tables $file --after 1" \
         "show" "show $file $file" "show $file --after 1" "show $file --packed" "pairs $file --packed" \
         "form" "form $file $file" "form $file --packed --packed" "form $file --after" "form $file --pack" \
@@ -19,12 +19,12 @@ wrong_runs() {
         ended "arguments $arguments" 2 "" "$(usage)"
     done
     asked 2 "" "$scratch/none: The file cannot be read: No such file or directory." input "$scratch/none"
-    asked 2 "" "$scratch: The file cannot be read: Is a directory." apart "$scratch" X1 X2
+    for command in apart why; do asked 2 "" "$scratch: The file cannot be read: Is a directory." "$command" "$scratch" X1 X2; done
     status=0
     "$program" explain <"$scratch" >"$out" 2>"$err" || status=$?
     ended "explain of a folder" 2 "" "standard input: The file cannot be read: Is a directory."
     "$program" form "$file" >"$scratch/form"
-    for arguments in "input $file" "explain" "apart $file Baptism Wedding" "apart $file Baptism Parish" "pairs $file" "tables $file" "show $file" \
+    for arguments in "input $file" "explain" "apart $file Baptism Wedding" "apart $file Baptism Parish" "why $file Baptism Wedding" "why $file Baptism Parish" "pairs $file" "tables $file" "show $file" \
         "form $file" "form $file --packed" "text $scratch/form" --help; do
         status=0
         # shellcheck disable=SC2086
@@ -33,7 +33,7 @@ wrong_runs() {
         same "message of $arguments to a full device" "sharetext: The output cannot be written." "$(<"$err")"
     done
     printf 'vars 3\nX\n' >"$file"
-    for arguments in "input -" "pairs -" "tables -" "show -" "form -" "form - --packed" "apart - - -"; do
+    for arguments in "input -" "pairs -" "tables -" "show -" "form -" "form - --packed" "apart - - -" "why - - -"; do
         # shellcheck disable=SC2086
         run $arguments
         ended "$arguments of a wrong standard input" 2 "" "$(mistake "$file" 2 1 1 "X is not one of the variables of line 1." "X1, X2 or X3 $symbols" |
@@ -80,7 +80,7 @@ each_number() {
 8 full what is safe to go on with after it is the all-star table
 9 narrow the output that the caller lent is too short
 10 unlike two tables have different numbers of variables
-11 keep a projection keeps no variable
+11 keep a projection keeps no variable, or one above the last, or a group that is asked for is empty
 12 digit a byte of a packed table is 243 or more
 END
     for number in 0 13 65536 4294967301; do

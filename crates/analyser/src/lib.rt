@@ -12,8 +12,9 @@ ghost use Rattle.forms.specs.declared.Layout.the-variants.{Packed};
 ghost use Rattle.equation_forms.specs.declared.Left.the-variants.{Variable, Term};
 ghost use Rattle.forms.specs.TableForms.{read-table, read-packed};
 ghost use Rattle.byte_calls.specs.ByteCalls.{change-side-bytes, equation-bytes, join-bytes, projection-bytes, equal-bytes};
-ghost use Rattle.byte_calls.specs.ByteCalls.{unify-bytes, ground-bytes, independent-bytes};
+ghost use Rattle.byte_calls.specs.ByteCalls.{unify-bytes, ground-bytes, independent-bytes, reason-bytes};
 ghost use Rattle.questions.specs.Replies.{reply-number, reply-word};
+ghost use Rattle.reasons.specs.Verdicts.{verdict-number, verdict-word, x-word, t-word};
 ghost use Rattle.byte_calls.specs.Outputs.{output-number-as, output-bytes-as, output-number, output-bytes};
 ghost use Rattle.byte_calls.specs.BufferParts.{lent, smaller-part};
 ghost use Rattle.running.specs.States.{started, step-number, advanced, run-state, state-number, state-bytes};
@@ -195,6 +196,39 @@ pub extern "C" fn sharing_independent(
     byte_calls::outputs::reply(
         byte_calls::independent(operations::side_numbered(side), table, first, second),
         answer,
+    )
+}
+
+// Is a group in a positive table after the equation "variable = term", and why or why not?
+#[no_mangle]
+pub extern "C" fn sharing_reason(
+    table: &[u8],
+    variable: u32,
+    term: &[u8],
+    group: u32,
+    verdict: &mut u32,
+    x_entry: &mut u32,
+    t_entry: &mut u32,
+) -> u32
+    ensures number { λ r. ⌜
+        r ≡ verdict-number (reason-bytes (now (table .entry)) variable (now (term .entry)) group)
+        ⌝ }
+    ensures word { λ r. ⌜
+        now (verdict .exit)
+        ≡ verdict-word (reason-bytes (now (table .entry)) variable (now (term .entry)) group) (now (verdict .entry))
+        ⌝ }
+    ensures entries { λ r. ⌜
+        (now («x_entry» .exit)
+        ≡ x-word (reason-bytes (now (table .entry)) variable (now (term .entry)) group) (now («x_entry» .entry)))
+        × (now («t_entry» .exit)
+        ≡ t-word (reason-bytes (now (table .entry)) variable (now (term .entry)) group) (now («t_entry» .entry)))
+        ⌝ }
+{
+    byte_calls::outputs::verdict(
+        byte_calls::reason(table, variable, term, group),
+        verdict,
+        x_entry,
+        t_entry,
     )
 }
 

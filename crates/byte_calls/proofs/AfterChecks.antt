@@ -16,17 +16,21 @@ use Rattle.tables.specs.declared.Answer.{Answer}
 use Rattle.tables.specs.declared.Answer.the-variants.{Accepted, Refused}
 use Rattle.tables.specs.declared.Answered.{Answered}
 use Rattle.tables.specs.Refusals.{if-accepted, member, one-of, Numbered}
-use Rattle.tables.specs.Values.{refuses, check-table}
+use Rattle.tables.specs.Values.{refuses, check-table, GoodTable}
 use Rattle.tables.proofs.Numbers.{refused-numbered, accepted-numbered, test-numbered}
 use Rattle.terms.specs.Checks.{most-tokens, Written, one-term, two-terms}
 use Rattle.operations.specs.Operations.{equation-call, unify-call, written-call}
+use Rattle.reasons.specs.declared.Verdict.the-variants as J
+use Rattle.reasons.specs.Verdicts.{reason-call}
 use Rattle.codec.specs.Numbers.{numbers, with-zeros}
 use Rattle.codec.proofs.Laws.{length-words}
 use Rattle.forms.specs.declared.Extent.the-variants.{Whole}
 use Rattle.forms.specs.TableForms.{read-table}
+use Rattle.forms.specs.declared.Layout.the-variants.{Plain}
 use Rattle.forms.proofs.Tests.{held}
+use Rattle.forms.proofs.Reading.{read-good}
 use Rattle.byte_calls.specs.ByteCalls.{check-bytes, check-both-bytes, tokens-of, term-call, terms-call, written-tokens}
-use Rattle.byte_calls.specs.ByteCalls.{value-call, after-read}
+use Rattle.byte_calls.specs.ByteCalls.{value-call, term-reason, after-read}
 
 -- ---- After a table was read
 
@@ -41,6 +45,10 @@ module _ {A : Type 0} (b : List ℕ) {a : Answered} (is : a ≡ read-table Whole
   pub read-accepted : a .answer ≡ Accepted → next (a .table) ≡ after-read b stop next
   unfolding after-read if-accepted
   read-accepted e = rw (answer-read e) (ap (λ (y : Answered). next (y .table)) is)
+
+-- The table that was read is good.
+pub read-table-good : (b : List ℕ) {a : Answered} → a ≡ read-table Whole b → a .answer ≡ Accepted → GoodTable (a .table)
+read-table-good b {a} is e = read-good Plain Whole b (a .table) (sym is ∙ λ i. record { answer = e i; table = a .table }) .0
 
 -- ---- An equation as bytes
 
@@ -153,3 +161,16 @@ module _ (side : Side) (t : Table) (b c : List ℕ) where
       → refuses r t ≡ terms-call side t b c
   unfolding check-all-bytes value-call
   terms-bytes-refused good e = bytes-refused side t (two-terms b c) good e
+
+-- ---- A group after an equation whose term is bytes, in the code
+
+module _ (t : Table) (x : ℕ) (b : List ℕ) (s : ℕ) where
+  pub reason-bytes-refused : {r : Refusal} → check-bytes b ≡ Refused r → J.Refused r ≡ term-reason t x b s
+  unfolding term-reason if-accepted
+  reason-bytes-refused e = rw e
+
+  pub reason-bytes-accepted : check-bytes b ≡ Accepted → {row : List ℕ}
+      → row ≡ with-zeros most-tokens (numbers (length b / 2) b)
+      → reason-call t x (take (length b / 2) row) s ≡ term-reason t x b s
+  unfolding term-reason if-accepted
+  reason-bytes-accepted e filled = rw e (ap (λ (ts : List ℕ). reason-call t x ts s) (tokens-taken b filled))

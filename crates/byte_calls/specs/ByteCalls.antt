@@ -19,6 +19,9 @@ use Rattle.operations.specs.Operations.{equation-call, unify-call, join-call, p
 use Rattle.questions.specs.declared.Reply.{Reply}
 use Rattle.questions.specs.declared.Reply.the-variants as Q
 use Rattle.questions.specs.Replies.{equal-call, ground-call, independent-call}
+use Rattle.reasons.specs.declared.Verdict.{Verdict}
+use Rattle.reasons.specs.declared.Verdict.the-variants as J
+use Rattle.reasons.specs.Verdicts.{reason-call}
 use Rattle.codec.specs.Numbers.{numbers}
 use Rattle.forms.specs.declared.Extent.the-variants.{Whole}
 use Rattle.forms.specs.TableForms.{read-table}
@@ -39,6 +42,10 @@ unfoldable pub term-call : Side → Table → ℕ → List ℕ → Answered
 term-call side t x b =
     if-accepted (check-table t) (λ r. refuses r t) (if-accepted (check-bytes b) (λ r. refuses r t)
     (equation-call side t x (tokens-of b)))
+
+-- The group s after an equation with its term as bytes, on a table value: 7, 1 of the bytes; then as on tokens.
+unfoldable pub term-reason : Table → ℕ → List ℕ → ℕ → Verdict
+term-reason t x b s = if-accepted (check-bytes b) J.Refused (reason-call t x (tokens-of b) s)
 
 -- ---- Two terms as bytes
 
@@ -114,3 +121,7 @@ ground-bytes side b x = after-read b Q.Refused (λ t. ground-call side t x)
 -- Are two sets of variables independent?
 unfoldable pub independent-bytes : Side → List ℕ → ℕ → ℕ → Reply
 independent-bytes side b first second = after-read b Q.Refused (λ t. independent-call side t first second)
+
+-- Is a group there after an equation, and why?
+unfoldable pub reason-bytes : List ℕ → ℕ → List ℕ → ℕ → Verdict
+reason-bytes b x term s = after-read b J.Refused (λ t. term-reason t x term s)

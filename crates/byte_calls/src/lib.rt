@@ -4,6 +4,7 @@ pub mod outputs; // what a call hands back: number, form, word, part
 use forms::Extent;
 use operations::Side;
 use questions::Reply;
+use reasons::Verdict;
 use tables::Answer;
 use tables::Answered;
 use tables::Refusal;
@@ -15,6 +16,7 @@ ghost use Rattle.operations.specs.Operations.{side-of, unify-call};
 ghost use Rattle.byte_calls.specs.ByteCalls.{check-bytes, term-call, change-side-bytes, equation-bytes, join-bytes};
 ghost use Rattle.byte_calls.specs.ByteCalls.{projection-bytes, equal-bytes, ground-bytes, independent-bytes};
 ghost use Rattle.byte_calls.specs.ByteCalls.{check-both-bytes, tokens-of, terms-call, unify-bytes};
+ghost use Rattle.byte_calls.specs.ByteCalls.{term-reason, reason-bytes};
 
 // The bytes of a term handed over by itself: 7 where half the length, rounded down, is above 1024; 1 where it is odd.
 fn check_bytes(term: &[u8]) -> Answer
@@ -208,5 +210,34 @@ pub fn independent(side: Side, b: &[u8], first: u32, second: u32) -> Reply
     match answer {
         Answer::Refused(r) => Reply::Refused(r),
         Answer::Accepted => questions::independent(side, t, first, second),
+    }
+}
+
+// The verdict on the group s after the equation Xx = the term of the bytes, on a checked positive table.
+fn reason_term(t: Table, x: u32, term: &[u8], s: u32) -> Verdict
+    requires { ⌜ GoodTable t ⌝ }
+    ensures { λ r. ⌜ r ≡ term-reason t x (now (term .entry)) s ⌝ }
+{
+    match check_bytes(term) {
+        Answer::Refused(r) => Verdict::Refused(r),
+        Answer::Accepted => {
+            let n = term.len() / 2;
+            let row = codec::tokens_at(term, 0, n);
+            let tokens: &[u16] = &row;
+            reasons::judge_checked(t, x, &tokens[..n], s)
+        }
+    }
+}
+
+// Is the group s in the positive table of the bytes after the equation Xx = the term of the bytes, and why?
+pub fn reason(b: &[u8], x: u32, term: &[u8], s: u32) -> Verdict
+    ensures { λ r. ⌜ r ≡ reason-bytes (now (b .entry)) x (now (term .entry)) s ⌝ }
+{
+    let read = forms::read_table(Extent::Whole, b);
+    let answer = read.answer;
+    let t = read.table;
+    match answer {
+        Answer::Refused(r) => Verdict::Refused(r),
+        Answer::Accepted => reason_term(t, x, term, s),
     }
 }

@@ -2,10 +2,12 @@
 use forms::Extent;
 use forms::Layout;
 use questions::Reply;
+use reasons::Verdict;
 use tables::Answer;
 use tables::Answered;
 ghost use mathlib.Core.Path.{_≡_};
 ghost use Rattle.questions.specs.Replies.{reply-number, reply-word};
+ghost use Rattle.reasons.specs.Verdicts.{verdict-number, verdict-word, x-word, t-word};
 ghost use Rattle.byte_calls.specs.Outputs.{output-number-as, output-bytes-as, output-number, output-bytes};
 ghost use Rattle.byte_calls.specs.BufferParts.{lent, smaller-part};
 
@@ -37,6 +39,20 @@ pub fn reply(r: Reply, word: &mut u32) -> u32
 {
     *word = questions::reply_word(r, *word);
     questions::reply_number(r)
+}
+
+// Writes the three words of a verdict; nothing where the call is refused. The number of the answer.
+pub fn verdict(v: Verdict, word: &mut u32, x_entry: &mut u32, t_entry: &mut u32) -> u32
+    ensures number { λ r. ⌜ r ≡ verdict-number v ⌝ }
+    ensures word { λ r. ⌜ now (word .exit) ≡ verdict-word v (now (word .entry)) ⌝ }
+    ensures entries { λ r. ⌜
+        (now («x_entry» .exit) ≡ x-word v (now («x_entry» .entry))) × (now («t_entry» .exit) ≡ t-word v (now («t_entry» .entry)))
+        ⌝ }
+{
+    *word = reasons::verdict_word(v, *word);
+    *x_entry = reasons::x_word(v, *x_entry);
+    *t_entry = reasons::t_word(v, *t_entry);
+    reasons::verdict_number(v)
 }
 
 // Of a positive and a negative form at the front of two buffers the one with fewer entries, as the part of the buffer that holds

@@ -38,7 +38,7 @@ covered-at (s ∷ τ) g zero n h = ap (λ (b : Bool). b || covered τ g) h
 covered-at (s ∷ τ) g (suc i) n h = or-right (covers s g) _ (covered-at τ g i (omega arith) h)
 
 -- and the other way round
-covered-of : (τ : Entries) (g : Bits) → covered τ g ≡ true → (i : ℕ) × (i < length τ) × (covers (getD τ i []) g ≡ true)
+pub covered-of : (τ : Entries) (g : Bits) → covered τ g ≡ true → (i : ℕ) × (i < length τ) × (covers (getD τ i []) g ≡ true)
 unfolding covered
 covered-of [] g h = absurd (false≢true h)
 covered-of (s ∷ τ) g h = go (covered-of τ g) (covers s g) refl h

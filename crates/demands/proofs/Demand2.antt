@@ -253,7 +253,7 @@ module _ (side : Side) (b out : List ℕ) where
 -- ---- Equation
 
 -- the checks of an equation's bytes
-bytes-conditions : {ns : List ℕ} (w : Written) → T (within (7 ∷ 1 ∷ []) ns)
+pub bytes-conditions : {ns : List ℕ} (w : Written) → T (within (7 ∷ 1 ∷ []) ns)
     → Conditions ns (λ r. check-all-bytes w ≡ Refused r) (check-all-bytes w ≡ Accepted)
 bytes-conditions {ns} w few = record {
   apart = λ r e h. absurd (let z : _≡_ {A = ℕ} 0 1 = cc in omega arith);

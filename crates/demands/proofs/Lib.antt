@@ -5,6 +5,7 @@ pub mod HandedBack
 pub mod Found
 pub mod Demand2
 pub mod Questions
+pub mod Reasons
 pub mod Demand3
 pub mod Ends
 pub mod GoodStates

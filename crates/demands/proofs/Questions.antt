@@ -13,9 +13,8 @@ use Rattle.words.specs.Words.{set}
 use Rattle.tables.specs.declared.Table.{Table}
 use Rattle.tables.specs.declared.Refusal.{Refusal}
 use Rattle.tables.specs.declared.Refusal.the-variants as R
-use Rattle.tables.specs.declared.Answer.the-variants as A
 use Rattle.tables.specs.Refusals.{refusal-number, member, one-of}
-use Rattle.tables.proofs.Numbers.{within, same-answer}
+use Rattle.tables.proofs.Numbers.{within, refusal-some, same-refusal}
 use Rattle.operations.specs.Outcomes.{groups-of}
 use Rattle.operations.proofs.Exclusive.{Conditions, single, test}
 use Rattle.questions.specs.declared.Reply.{Reply}
@@ -65,16 +64,6 @@ module _ (b : List ℕ) {G : Table → Refusal → Type 0} {H : Table → Type 0
       (sym (call-by-bytes b (h .1) Refused ask))
       (with-table b (h .0) (h .1) S (f (h .0) (h .1))))
       (reads-or-not (form-outcome Plain b))
-
--- a refusal has no number 0
-refusal-some : {P : Type 0} (r : Refusal) → refusal-number r ≡ 0 → P
-refusal-some r e =
-    let clash = same-answer (A.Refused r) A.Accepted e in
-    absurd (let z : _≡_ {A = ℕ} 0 1 = cc in omega arith)
-
--- refusals with one number are one
-same-refusal : (r s : Refusal) → refusal-number r ≡ refusal-number s → r ≡ s
-same-refusal r s e = let d = same-answer (A.Refused r) (A.Refused s) e in cc
 
 module _ {E : Refusal → Type 0} {P : Type 0} {S : P → Type 0} (ns : List ℕ) (conditions : Conditions ns E P)
     (same : (p q : P) → S p → S q) (word : ℕ) where

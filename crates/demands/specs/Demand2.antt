@@ -30,6 +30,9 @@ use Rattle.operations.specs.Outcomes.{groups-of, Becomes, ConvertEarly, Convert
 use Rattle.operations.specs.Outcomes.{UnifyNeeds, ProjectionNeeds, ChangeNeeds}
 use Rattle.questions.specs.declared.Reply.{Reply}
 use Rattle.questions.specs.Replies.{reply-number, reply-word, good-sets}
+use Rattle.reasons.specs.declared.Verdict.{Verdict}
+use Rattle.reasons.specs.Verdicts.{verdict-number, verdict-word, x-word, t-word, check-group}
+use Rattle.reasons.specs.Statements.{TableWhere, InAfter}
 use Rattle.forms.specs.declared.Extent.the-variants.{Whole, Front}
 use Rattle.forms.specs.declared.Layout.{Layout}
 use Rattle.forms.specs.declared.Layout.the-variants.{Plain, Packed}
@@ -37,7 +40,7 @@ use Rattle.forms.specs.TableForms.{sized, first-size, second-size, form-length,
 use Rattle.forms.specs.TableForms.{form-numbers, read-form, read-table, Passed, form-of}
 use Rattle.byte_calls.specs.ByteCalls.{check-bytes, tokens-of, change-side-bytes, equation-bytes, join-bytes}
 use Rattle.byte_calls.specs.ByteCalls.{check-both-bytes, unify-bytes, projection-bytes, equal-bytes, ground-bytes}
-use Rattle.byte_calls.specs.ByteCalls.{independent-bytes}
+use Rattle.byte_calls.specs.ByteCalls.{independent-bytes, reason-bytes}
 use Rattle.byte_calls.specs.Outputs.{output-number-as, output-bytes-as}
 
 -- ---- What is handed back
@@ -261,3 +264,33 @@ IndependentExported side b first second word =
     (ReadAnd b (λ t. good-sets (t .l) first second ≡ true))
     (λ q. Independent (groups-of side (q .table)) (set (q .table .l) first) (set (q .table .l) second))
     (independent-bytes side b first second) word
+
+-- ---- The reason behind a group
+
+-- What the exported call returns, and the three words afterwards. 0 exactly where the call is ready; then each verdict exactly in
+-- its condition, and the word is 0 or 1, kept or joined, exactly where s is in the groups after the equation. A number of ns
+-- exactly in its condition. No other number, so that none meets 8; and but for 0 the three words are what they were.
+pub record ExportedReason (ns : List ℕ) (Early : Refusal → Type 0) (Ready : Type 0) (Condition : Ready → Verdict → Type 0)
+    (In : Ready → Type 0) (v : Verdict) (word x-entry t-entry : ℕ) : Type 0 where
+  pub zero-where : (verdict-number v ≡ 0) ↔ Ready
+  pub each-where : (ready : Ready) (u : Verdict) → (v ≡ u) ↔ Condition ready u
+  pub there-where : (ready : Ready) → ((verdict-word v word ≡ 0) ⊎ (verdict-word v word ≡ 1)) ↔ In ready
+  pub early-where : (r : Refusal) → T (one-of ns r) → (verdict-number v ≡ refusal-number r) ↔ Early r
+  pub no-other : T (member (verdict-number v) (0 ∷ ns))
+  pub unwritten : ¬ (verdict-number v ≡ 0)
+      → (verdict-word v word ≡ word) × (x-word v x-entry ≡ x-entry) × (t-word v t-entry ≡ t-entry)
+
+-- The refusals of the term as bytes; then 4 for a bit of s above l, 11 for s = 0.
+abbrev pub GroupEarly : ℕ → List ℕ → ℕ → Table → Refusal → Type 0
+GroupEarly x term s t r = TermEarly x term t r ⊎ (TermReady x term t × (check-group (t .l) s ≡ Refused r))
+
+-- The bytes are the tokens of one whole term, and s is a group of l variables.
+abbrev pub GroupReady : ℕ → List ℕ → ℕ → Table → Type 0
+GroupReady x term s t = TermReady x term t × (check-group (t .l) s ≡ Accepted)
+
+-- `sharing_reason`, of a positive table.
+abbrev pub ReasonExported : List ℕ → ℕ → List ℕ → ℕ → ℕ → ℕ → ℕ → Type 0
+ReasonExported b x term s word x-entry t-entry =
+    ExportedReason (1 ∷ 2 ∷ 3 ∷ 4 ∷ 7 ∷ 5 ∷ 6 ∷ 11 ∷ []) (AfterRead b (GroupEarly x term s)) (ReadAnd b (GroupReady x term s))
+    (λ q. TableWhere (q .table) (record { left = x; right = q .ready .0 .right }) s)
+    (λ q. InAfter (q .table) (record { left = x; right = q .ready .0 .right }) s) (reason-bytes b x term s) word x-entry t-entry

@@ -35,5 +35,6 @@ pub mod Computing
 pub mod Unbound
 pub mod Example
 pub mod Questions
+pub mod Reasons
 pub mod Reader
 pub mod MarkedRows

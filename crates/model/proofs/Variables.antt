@@ -21,14 +21,14 @@ pub variables-length : (l : ℕ) (t : Term) → length (variables l t) ≡ l
 unfolding variables
 variables-length l t = set-of-length l (λ i. occurs i t)
 
-has-set-of : (l : ℕ) (p : ℕ → Bool) (y : ℕ) → T (has (set-of l p) y) → T (p y)
+pub has-set-of : (l : ℕ) (p : ℕ → Bool) (y : ℕ) → T (has (set-of l p) y) → T (p y)
 unfolding has set-of
 has-set-of l p zero h = absurd h
 has-set-of zero p (suc i) h = absurd h
 has-set-of (suc l) p (suc zero) h = h
 has-set-of (suc l) p (suc (suc i)) h = has-set-of l (λ j. p (suc j)) (suc i) h
 
-set-of-has : (l : ℕ) (p : ℕ → Bool) (y : ℕ) (g : Bits) → length g ≡ l → T (has g y) → T (p y) → T (has (set-of l p) y)
+pub set-of-has : (l : ℕ) (p : ℕ → Bool) (y : ℕ) (g : Bits) → length g ≡ l → T (has g y) → T (p y) → T (has (set-of l p) y)
 unfolding has set-of
 set-of-has l p zero g e h k = h
 set-of-has l p (suc i) [] e h k = absurd h

@@ -9,6 +9,7 @@ pub mod Questions
 pub mod Terms
 pub mod Tokens
 pub mod Equations
+pub mod Reasons
 pub mod Walk
 pub mod Unification
 pub mod Bindings

@@ -122,3 +122,13 @@ answer-back (Refused R.Digit) = refl
 -- Answers with the same number are the same.
 pub same-answer : (a b : Answer) → answer-number a ≡ answer-number b → a ≡ b
 same-answer a b e = sym (answer-back a) ∙ ap (λ (k : ℕ). getD numbered-answers k Accepted) e ∙ answer-back b
+
+-- A refusal has no number 0.
+pub refusal-some : {P : Type 0} (r : Refusal) → refusal-number r ≡ 0 → P
+refusal-some r e =
+    let clash = same-answer (Refused r) Accepted e in
+    absurd (let z : _≡_ {A = ℕ} 0 1 = cc in omega arith)
+
+-- Refusals with one number are one.
+pub same-refusal : (r s : Refusal) → refusal-number r ≡ refusal-number s → r ≡ s
+same-refusal r s e = let d = same-answer (Refused r) (Refused s) e in cc

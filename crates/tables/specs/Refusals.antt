@@ -14,8 +14,8 @@ use Rattle.tables.specs.declared.Answer.the-variants.{Accepted, Refused}
 -- The number of a refusal, each with 01's word and its condition in the order of 01's table: 1 a length that the sizes do not
 -- give; 2 l outside 1 to 32; 3 more than 256 entries; 4 a bit above l, or a value without care; 5 a variable not 1 to l; 6 no
 -- whole term; 7 too many equations or tokens; 8 entry 257 needed; 9 an output too short; 10 tables of different l; 11 a
--- projection onto no variable, or onto one above l; and of 02, request 1: 12 a packed byte of 243 or more, or an unused digit
--- that is not 0.
+-- projection onto no variable, or onto one above l; of 02, request 1: 12 a packed byte of 243 or more, or an unused digit that
+-- is not 0; and of request 7: 4 a bit above l in the group asked for, 11 a group without a variable.
 abbrev pub refusal-number : Refusal → ℕ
 refusal-number Torn = 1
 refusal-number Width = 2

@@ -5,3 +5,4 @@ pub mod RunExample
 pub mod RunningExample
 pub mod GoalsExample
 pub mod SelfExample
+pub mod ReasonExample

@@ -1,13 +1,13 @@
 //! Calls that apply equations or set two terms equal, on a table as it stands, and the table that they
 //! leave.
 
-use crate::base::{any_state, give_equation, give_terms};
+use crate::base::{any_state, give_equation, give_terms, output};
 use crate::case::{Call, Case, Outcome};
 use crate::tester::Tester;
 use reference::{Equation, Table, TwoTerms};
 use std::slice;
 use support::library::RawTable;
-use support::tables::{form, table_of, LONGEST};
+use support::tables::{form, table_of};
 use support::{Checked, Equations, Random, TermEquations};
 
 /// A call on a table as it stands, without its equation.
@@ -19,9 +19,10 @@ pub fn on_table(call: Call, side: u32, table: &Table, random: &mut Random) -> Ca
     } else {
         case.first = form(table);
     }
-    if call.writes_form() {
-        case.out = random.bytes(LONGEST);
+    if call == Call::Reason {
+        case.other = random.group_of(table);
     }
+    case.out = output(call, random);
     case
 }
 

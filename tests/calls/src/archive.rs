@@ -12,6 +12,7 @@ pub fn perform(case: &Case, random: &mut Random) -> Result<Outcome, String> {
         Call::Smaller => smaller(case, random),
         Call::Run | Call::UnifyRun | Call::Start => returner(case, random),
         call if call.takes_state() => on_state(case, random),
+        Call::Reason => reason(case, random),
         call if call.asks() => question(case, random),
         _ => writer(case, random),
     }
@@ -46,7 +47,7 @@ fn writer(case: &Case, random: &mut Random) -> Result<Outcome, String> {
         }
     };
     inputs_kept(&[&first, &second, &third])?;
-    outcome(number, &lent, None)
+    outcome(number, &[lent], None)
 }
 
 /// A question: its answer is one word.
@@ -65,6 +66,22 @@ fn question(case: &Case, random: &mut Random) -> Result<Outcome, String> {
         }
     };
     inputs_kept(&[&first, &second])?;
+    outcome(number, &[lent], None)
+}
+
+/// The reason behind a group: three words, each lent by itself.
+fn reason(case: &Case, random: &mut Random) -> Result<Outcome, String> {
+    let mut first = Guarded::new(&case.first, random);
+    let mut second = Guarded::new(&case.second, random);
+    let words = case.out.chunks_exact(4);
+    let mut lent: Vec<Guarded> = words.map(|word| Guarded::aligned(word, random)).collect();
+    let words: Vec<*mut u32> = lent.iter_mut().map(|word| word.ptr().cast()).collect();
+    let (a, n, b, m) = (first.ptr(), first.len(), second.ptr(), second.len());
+    let (variable, group) = (case.word, case.other);
+    // SAFETY: as above; the three words are aligned.
+    let number =
+        unsafe { sharing_reason(a, n, variable, b, m, group, words[0], words[1], words[2]) };
+    inputs_kept(&[&first, &second])?;
     outcome(number, &lent, None)
 }
 
@@ -82,8 +99,7 @@ fn returner(case: &Case, random: &mut Random) -> Result<Outcome, String> {
         }
     };
     inputs_kept(&[&first, &second])?;
-    let nothing = Guarded::new(&[], random);
-    outcome(state.code, &nothing, Some(Box::new(state)))
+    outcome(state.code, &[], Some(Box::new(state)))
 }
 
 /// A call on a lent state.
@@ -106,7 +122,7 @@ fn on_state(case: &Case, random: &mut Random) -> Result<Outcome, String> {
     if !state.has_guards() {
         return Err("memory around the state was changed".into());
     }
-    outcome(number, &lent, Some(Box::new(state.inner)))
+    outcome(number, &[lent], Some(Box::new(state.inner)))
 }
 
 /// The two-buffer call. The part is a valid one before the call, of neither buffer.
@@ -158,14 +174,14 @@ fn inputs_kept(inputs: &[&Guarded]) -> Result<(), String> {
     }
 }
 
-/// Sees that the memory around an output is as it was, and takes what it holds.
-fn outcome(number: u32, lent: &Guarded, state: Option<Box<State>>) -> Result<Outcome, String> {
-    if !lent.has_guards() {
+/// Sees that the memory around each output is as it was, and takes what they hold.
+fn outcome(number: u32, lent: &[Guarded], state: Option<Box<State>>) -> Result<Outcome, String> {
+    if !lent.iter().all(Guarded::has_guards) {
         return Err("memory around the output was changed".into());
     }
     Ok(Outcome {
         number,
-        out: lent.content().to_vec(),
+        out: lent.iter().flat_map(Guarded::content).copied().collect(),
         part: Part::None,
         state,
     })

@@ -31,7 +31,7 @@ pub fn short_base(call: Call, negative: bool, l: u32, random: &mut Random) -> Ca
     let mut case = base_on(call, negative, Size::Light, &table, random);
     match call {
         Call::Join | Call::Equal | Call::Smaller => case.second = form(&random.short_table(l)),
-        Call::Equation | Call::Step => {
+        Call::Equation | Call::Reason | Call::Step => {
             let size = random.within(1, 8);
             give_equation(&mut case, random.equation_of(l, size));
         }
@@ -88,6 +88,10 @@ pub fn base_on(call: Call, negative: bool, size: Size, table: &Table, random: &m
         Call::Equation | Call::Step => {
             give_equation(&mut case, random.equation(l));
         }
+        Call::Reason => {
+            give_equation(&mut case, random.equation(l));
+            case.other = random.group_of(table);
+        }
         call if call.takes_two_terms() => {
             let terms = random.two_terms(l);
             give_terms(&mut case, &terms);
@@ -110,14 +114,15 @@ pub fn base_on(call: Call, negative: bool, size: Size, table: &Table, random: &m
     case
 }
 
-/// What the output holds before the call, longer than any form; or the word for the answer.
-fn output(call: Call, random: &mut Random) -> Vec<u8> {
+/// What the output holds before the call, longer than any form; or the words for the answer.
+pub fn output(call: Call, random: &mut Random) -> Vec<u8> {
     match call {
         _ if call.writes_form() => {
             let more = random.below(12);
             random.bytes(LONGEST + more)
         }
         _ if call.asks() => random.bytes(4),
+        Call::Reason => random.bytes(12),
         _ => Vec::new(),
     }
 }

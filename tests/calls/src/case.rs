@@ -20,6 +20,7 @@ pub enum Call {
     Equal,
     Ground,
     Independent,
+    Reason,
     Smaller,
     Run,
     UnifyRun,
@@ -31,7 +32,7 @@ pub enum Call {
 
 impl Call {
     /// All calls, in the order of the C header.
-    pub const ALL: [Call; 19] = [
+    pub const ALL: [Call; 20] = [
         Call::Read,
         Call::Pack,
         Call::Unpack,
@@ -44,6 +45,7 @@ impl Call {
         Call::Equal,
         Call::Ground,
         Call::Independent,
+        Call::Reason,
         Call::Smaller,
         Call::Run,
         Call::UnifyRun,
@@ -68,6 +70,7 @@ impl Call {
             Call::Equal => "sharing_equal",
             Call::Ground => "sharing_ground",
             Call::Independent => "sharing_independent",
+            Call::Reason => "sharing_reason",
             Call::Smaller => "sharing_smaller",
             Call::Run => "sharing_run",
             Call::UnifyRun => "sharing_unify_run",
@@ -105,12 +108,12 @@ impl Call {
         matches!(self, Call::Unify | Call::UnifyStep)
     }
 
-    /// Whether the call applies equations.
+    /// Whether the call is given equations.
     pub fn takes_equations(self) -> bool {
         self.takes_two_terms()
             || matches!(
                 self,
-                Call::Equation | Call::Step | Call::Run | Call::UnifyRun
+                Call::Equation | Call::Reason | Call::Step | Call::Run | Call::UnifyRun
             )
     }
 
@@ -124,7 +127,7 @@ impl Call {
         use Call::*;
         !matches!(
             self,
-            Read | Pack | Unpack | Convert | Equal | Smaller | Write
+            Read | Pack | Unpack | Convert | Equal | Reason | Smaller | Write
         )
     }
 }
@@ -137,7 +140,7 @@ pub struct Case {
     pub side: u32,
     /// The l of a conversion, the variable, the kept set or the first set.
     pub word: u32,
-    /// The second set.
+    /// The second set, or the group.
     pub other: u32,
     /// The table, in the form that the call reads, or the words of a conversion.
     pub first: Vec<u8>,
@@ -145,7 +148,7 @@ pub struct Case {
     pub second: Vec<u8>,
     /// The right one of two terms.
     pub third: Vec<u8>,
-    /// What the output or the word for the answer holds before the call.
+    /// What the output or the words for the answer hold before the call.
     pub out: Vec<u8>,
     /// The state of a running analysis.
     pub state: Option<Box<State>>,
@@ -211,7 +214,7 @@ pub enum Part {
 pub struct Outcome {
     /// The number returned, or the code of a state returned.
     pub number: u32,
-    /// The whole output or the word for the answer after the call.
+    /// The whole output or the words for the answer after the call.
     pub out: Vec<u8>,
     pub part: Part,
     /// The state returned, or the lent one after the call.

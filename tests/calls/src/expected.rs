@@ -13,6 +13,7 @@ pub fn expected(case: &Case) -> Outcome {
         Call::UnifyRun => returned(&byte_calls::unify_run(case.side, &case.first, &case.second)),
         Call::Start => returned(&byte_calls::start(case.side, &case.first)),
         Call::Step | Call::UnifyStep => step(case),
+        Call::Reason => reason(case),
         call if call.asks() => question(case),
         _ => writer(case),
     }
@@ -55,9 +56,31 @@ fn question(case: &Case) -> Outcome {
         Call::Ground => byte_calls::ground(case.side, &case.first, case.word, &mut answer),
         _ => byte_calls::independent(case.side, &case.first, case.word, case.other, &mut answer),
     };
+    of_words(number, &[answer])
+}
+
+/// The reason behind a group: its three words are the output.
+fn reason(case: &Case) -> Outcome {
+    let mut answer = words(&case.out);
+    let [verdict, x_entry, t_entry] = &mut answer[..] else {
+        panic!("the call is given three words");
+    };
+    let number = byte_calls::reason(
+        &case.first,
+        case.word,
+        &case.second,
+        case.other,
+        verdict,
+        x_entry,
+        t_entry,
+    );
+    of_words(number, &answer)
+}
+
+fn of_words(number: u32, answer: &[u32]) -> Outcome {
     Outcome {
         number,
-        out: answer.to_le_bytes().to_vec(),
+        out: answer.iter().flat_map(|word| word.to_le_bytes()).collect(),
         part: Part::None,
         state: None,
     }

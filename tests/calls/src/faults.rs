@@ -29,6 +29,10 @@ pub enum Fault {
     Variable,
     Set,
     Keep,
+    /// The group has a bit above l.
+    GroupStray,
+    /// The group has no variable.
+    GroupNone,
     ConvertWidth,
     ConvertStray,
     StateCount,
@@ -83,7 +87,7 @@ impl Fault {
             EquationsShort | EquationsLong | EquationsSizes => 1,
             Width(_) | ConvertWidth | StateWidth => 2,
             Count(_) | StateCount => 3,
-            StrayBit(_) | StrayValue(_) | ConvertStray | StateStray | StateTail => 4,
+            StrayBit(_) | StrayValue(_) | ConvertStray | StateStray | StateTail | GroupStray => 4,
             Variable | Set | TermToken | RightToken | EquationLeft | EquationToken => 5,
             TermPart | TermRest | TermNone | RightPart | RightRest | RightNone => 6,
             EquationPart | EquationRest | EquationNone | EquationSum => 6,
@@ -91,7 +95,7 @@ impl Fault {
             Full => 8,
             Narrow => 9,
             Unlike => 10,
-            Keep => 11,
+            Keep | GroupNone => 11,
             PackedByte | UnusedDigit => 12,
         }
     }
@@ -100,7 +104,7 @@ impl Fault {
     pub fn goes_with(self, later: Fault) -> bool {
         match (self, later) {
             (Full, Unlike) => false,
-            (StateCount, StateTail) => false,
+            (StateCount, StateTail) | (GroupStray, GroupNone) => false,
             (TermLong | TermToken | TermPart | TermRest, TermNone) => false,
             (TermLong | RightToken | RightPart | RightRest, RightNone) => false,
             // The rest could be the argument that is missing.
@@ -173,6 +177,7 @@ fn own_faults(call: Call, negative: bool) -> Vec<Fault> {
         Call::Equal | Call::Smaller => vec![Unlike],
         Call::Ground => vec![Variable],
         Call::Independent => vec![Set],
+        Call::Reason => [&[Variable, GroupStray, GroupNone], &term[..]].concat(),
         Call::Run => [&[EquationLeft], &equation_faults()[..]].concat(),
         Call::UnifyRun => equation_faults(),
         Call::Start => vec![],
@@ -223,7 +228,7 @@ pub fn put(fault: Fault, l: u32, case: &mut Case, random: &mut Random) {
         Full => {}
         Unlike => make_unlike(l, case, random),
         Narrow => make_narrow(case, random),
-        Variable | Set | Keep | ConvertWidth | ConvertStray => {
+        Variable | Set | Keep | GroupStray | GroupNone | ConvertWidth | ConvertStray => {
             word_faults::put(fault, l, case, random);
         }
         StateCount | StateStray | StateTail | StateWidth => {

@@ -1,6 +1,7 @@
 //! What was answered how often, and what each call can answer.
 
 use crate::case::{Call, Case, Outcome, Part};
+use crate::expected::words;
 use crate::faults::Fault;
 use crate::seen::Seen;
 use reference::forms::{read_equations, read_two_terms, words_of};
@@ -9,10 +10,13 @@ use reference::unification::{walk, Clash, Term};
 use reference::{Equation, Kind, TwoTerms};
 use std::collections::BTreeMap;
 use support::answers::{Answers, NUMBERS};
-use support::{Checked, Kinds};
+use support::{Checked, Kinds, Verdicts};
 
 /// A call, and whether its side is the negative one.
 type Row = (Call, bool);
+
+/// The row of the reasons behind groups.
+const REASONS: Row = (Call::Reason, false);
 
 /// The counts of one row.
 #[derive(Default)]
@@ -23,6 +27,8 @@ struct Counts {
     answers: [usize; 3],
     /// The equations of accepted calls, those that walks find among them.
     kinds: Kinds,
+    /// The reasons behind groups.
+    verdicts: Verdicts,
 }
 
 /// All counts of a run of this program.
@@ -32,7 +38,7 @@ pub struct Ledger {
     /// How often two faults stood together in a row, and which of their numbers was answered.
     pairs: BTreeMap<(Row, Fault, Fault), usize>,
     numbers: BTreeMap<(u32, u32), [usize; 2]>,
-    /// What came of equations whose term holds their left variable.
+    /// What came of equations whose term holds their left variable, and of reasons.
     seen: BTreeMap<Seen, usize>,
     total: usize,
 }
@@ -51,6 +57,7 @@ fn possible(call: Call, negative: bool) -> &'static [u32] {
         Call::Project => &[0, 1, 2, 3, 4, 9, 11],
         Call::Equal => &[0, 1, 2, 3, 4, 10],
         Call::Ground | Call::Independent => &[0, 1, 2, 3, 4, 5],
+        Call::Reason => &[0, 1, 2, 3, 4, 5, 6, 7, 11],
         Call::Smaller => &[0],
         Call::Run | Call::UnifyRun => &[0, 1, 2, 3, 4, 5, 6, 7, 8],
         Call::Step | Call::UnifyStep => &[0, 1, 2, 3, 4, 5, 6, 7, 8],
@@ -101,6 +108,9 @@ impl Ledger {
             Part::None if case.call.takes_two_terms() && outcome.number == 0 => {
                 counts.answers[walked(case)] += 1;
             }
+            Part::None if case.call == Call::Reason && outcome.number == 0 => {
+                counts.verdicts.enter(words(&outcome.out)[0]);
+            }
             Part::None | Part::Elsewhere(_) => {}
             Part::First(..) => counts.answers[0] += 1,
             Part::Second(..) => counts.answers[1] += 1,
@@ -120,7 +130,7 @@ impl Ledger {
         counts[usize::from(answered != a.min(b))] += 1;
     }
 
-    /// Counts what came of an equation whose term holds its left variable.
+    /// Counts what came of an equation whose term holds its left variable, or of a reason.
     pub fn note(&mut self, seen: Seen) {
         *self.seen.entry(seen).or_default() += 1;
     }
@@ -178,6 +188,9 @@ impl Ledger {
         for (row, counts) in equations.filter(|((call, _), _)| call.takes_equations()) {
             println!("{:<15}{}", title(*row), counts.kinds);
         }
+        if let Some(counts) = self.rows.get(&REASONS) {
+            println!("{:<15}{}", title(REASONS), counts.verdicts);
+        }
         if let Some(counts) = self.rows.get(&(Call::Smaller, false)) {
             let [first, second, empty] = counts.answers;
             println!("smaller        {first:>8} positive {second:>8} negative {empty:>8} empty");
@@ -224,6 +237,10 @@ impl Ledger {
             if counts.answers[..answers(row.0)].contains(&0) {
                 complaints.push(format!("{}: an answer was never given", title(row)));
             }
+            if row == REASONS {
+                let unseen = counts.verdicts.complaints().into_iter();
+                complaints.extend(unseen.map(|what| format!("{}: {what}", title(row))));
+            }
         }
         let unseen = Seen::ALL
             .iter()
@@ -242,7 +259,9 @@ fn applied(case: &Case) -> Vec<Kind> {
         found.iter().map(kind).collect::<Vec<Kind>>()
     };
     match case.call {
-        Call::Equation | Call::Step => vec![kind(case.word, &words_of(&case.second))],
+        Call::Equation | Call::Reason | Call::Step => {
+            vec![kind(case.word, &words_of(&case.second))]
+        }
         Call::Unify | Call::UnifyStep => found(&words_of(&case.second), &words_of(&case.third)),
         Call::Run => {
             let equations = read_equations(case.l(), &case.second).unwrap_or_default();

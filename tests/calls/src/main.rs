@@ -20,6 +20,7 @@ mod noise;
 mod packed;
 mod packed_faults;
 mod pairs;
+mod reasons;
 mod seen;
 mod self_equations;
 mod self_walks;
@@ -82,5 +83,6 @@ fn check_all(tester: &mut Tester) -> Checked<()> {
     sequences::check(tester, &full)?;
     tester.ledger.drew_each_kind()?;
     self_equations::check(tester)?;
-    self_walks::check(tester, &full)
+    self_walks::check(tester, &full)?;
+    reasons::check(tester, &full)
 }

@@ -1,4 +1,4 @@
-//! What has to come of equations whose term is their left variable or holds it deeper.
+//! What has to come of equations whose term is their left variable or holds it deeper, and of reasons.
 
 /// What comes of one; the ledger counts it.
 #[derive(Clone, Copy, Debug, PartialEq, Eq, PartialOrd, Ord)]
@@ -22,11 +22,15 @@ pub enum Seen {
     FullAfter,
     /// A walk with such equations that clashes.
     Clashed,
+    /// A reason where the equation itself is full.
+    ReasonWhereFull,
+    /// A reason that names other entries than the table as given has.
+    EntriesAsRead,
 }
 
 impl Seen {
     /// All of them.
-    pub const ALL: [Seen; 10] = [
+    pub const ALL: [Seen; 12] = [
         Seen::UngrownKept,
         Seen::ReadKept,
         Seen::NoneLeft,
@@ -37,6 +41,8 @@ impl Seen {
         Seen::FullBefore,
         Seen::FullAfter,
         Seen::Clashed,
+        Seen::ReasonWhereFull,
+        Seen::EntriesAsRead,
     ];
 
     /// What is printed beside the count.
@@ -52,6 +58,8 @@ impl Seen {
             Seen::FullBefore => "full, then a deeper x",
             Seen::FullAfter => "a deeper x, then full",
             Seen::Clashed => "a clash beside either",
+            Seen::ReasonWhereFull => "a reason where the equation is full",
+            Seen::EntriesAsRead => "a reason by entries that reading changes",
         }
     }
 }

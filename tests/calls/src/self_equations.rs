@@ -299,7 +299,9 @@ fn to_damage(call: Call, negative: bool, deeper: bool, random: &mut Random) -> C
         })
         .collect();
     match call {
-        Call::Equation | Call::Step | Call::Run => give_equations(&mut case, &some),
+        Call::Equation | Call::Reason | Call::Step | Call::Run => {
+            give_equations(&mut case, &some);
+        }
         _ => {
             let under = |term: &[u16]| [&[head(5, 1)], term].concat();
             let pairs = some.iter().map(|equation| TwoTerms {

@@ -206,7 +206,13 @@ fn chain(tester: &mut Tester, negative: bool, size: Size, random: &mut Random) -
 /// One question about what a chain has come to.
 fn ask(tester: &mut Tester, negative: bool, bytes: &[u8], random: &mut Random) -> Checked<()> {
     let table = table_of(bytes);
-    let call = random.pick(&[Call::Equal, Call::Ground, Call::Independent, Call::Smaller]);
+    let call = random.pick(&[
+        Call::Equal,
+        Call::Ground,
+        Call::Independent,
+        Call::Reason,
+        Call::Smaller,
+    ]);
     let mut case = base_on(call, negative, Size::Light, &table, random);
     if call == Call::Equal && random.percent(50) {
         // The same groups in another order.

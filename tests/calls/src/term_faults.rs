@@ -50,13 +50,14 @@ pub fn long_terms(l: u32, random: &mut Random) -> TwoTerms {
     }
 }
 
-/// Makes tokens end within the term: one head asks for an argument more.
-fn make_part(tokens: &mut [u16], random: &mut Random) {
+/// Makes tokens end within the term: one head asks for an argument more, or a head comes in front, so
+/// that a fault in a token stays.
+fn make_part(tokens: &mut Vec<u16>, random: &mut Random) {
     let heads = tokens.iter().enumerate();
     let heads = heads.filter(|(_, &token)| is_head(token) && arity(token) < 15);
     let places: Vec<usize> = heads.map(|(place, _)| place).collect();
     match places.len() {
-        0 => tokens[tokens.len() - 1] = head(random.word() as u16, 15),
+        0 => tokens.insert(0, head(random.word() as u16, 15)),
         _ => tokens[random.pick(&places)] += 1,
     }
 }

@@ -19,7 +19,7 @@ fn times(call: Call, negative: bool, size: Size) -> usize {
         Size::Wide if list && negative => 300,
         Size::Wide => 1000,
         Size::Any if long => 60,
-        Size::Any if list || call.asks() => 150,
+        Size::Any if list || call.asks() || call == Call::Reason => 150,
         Size::Any => 1500,
     }
 }

@@ -63,7 +63,7 @@ fn refused_width(tester: &mut Tester, given: &Case, l: u32) -> Checked<()> {
 /// Each bit of a word that is a set of variables: with others beside it and alone.
 fn each_set(tester: &mut Tester, given: &Case, random: &mut Random) -> Checked<()> {
     let (refusal, l) = match given.call {
-        Call::Convert => (4, given.l()),
+        Call::Convert | Call::Reason => (4, given.l()),
         Call::Independent => (5, given.l()),
         Call::Project => (11, given.l()),
         _ => return Ok(()),
@@ -74,6 +74,7 @@ fn each_set(tester: &mut Tester, given: &Case, random: &mut Random) -> Checked<(
             let mut case = given.clone();
             match given.call {
                 Call::Convert => case.first.extend(set.to_le_bytes()),
+                Call::Reason => case.other = set,
                 _ => case.word = set,
             }
             tester.answered(&case, number)?;
@@ -108,7 +109,7 @@ fn naming(given: &Case, variable: u16) -> Vec<Case> {
     let constant = bytes_of([head(2, 0)]);
     match given.call {
         Call::Ground => vec![with(&|case| case.word = variable.into())],
-        Call::Equation | Call::Step => vec![
+        Call::Equation | Call::Reason | Call::Step => vec![
             with(&|case| (case.word, case.second) = (variable.into(), constant.clone())),
             with(&|case| (case.word, case.second) = (1, term.clone())),
         ],

@@ -38,6 +38,8 @@ pub fn put(fault: Fault, l: u32, case: &mut Case, random: &mut Random) {
             let above = bits_above(l, random) | random.set(l);
             case.word = random.pick(&[0, above]);
         }
+        Fault::GroupStray => case.other = bits_above(l, random) | random.set(l),
+        Fault::GroupNone => case.other = 0,
         Fault::ConvertWidth => case.word = no_width(l, random),
         _ => {
             let (set, above) = (random.set(l), bits_above(l, random));

@@ -8,12 +8,14 @@ pub mod library;
 pub mod random;
 pub mod tables;
 pub mod two_terms;
+pub mod verdicts;
 
 pub use answers::Answers;
 pub use equations::Equations;
 pub use kinds::Kinds;
 pub use random::Random;
 pub use two_terms::TermEquations;
+pub use verdicts::Verdicts;
 
 use std::process::ExitCode;
 

@@ -98,6 +98,17 @@ extern "C" {
         second: u32,
         answer: *mut u32,
     ) -> u32;
+    pub fn sharing_reason(
+        table: In,
+        len: usize,
+        variable: u32,
+        term: In,
+        term_len: usize,
+        group: u32,
+        verdict: *mut u32,
+        x_entry: *mut u32,
+        t_entry: *mut u32,
+    ) -> u32;
     pub fn sharing_smaller(
         positive: In,
         positive_len: usize,

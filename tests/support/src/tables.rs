@@ -108,6 +108,25 @@ impl Random {
         }
     }
 
+    /// A group of a table's variables: any, or some groups of the table taken together, at times with
+    /// one variable more or less.
+    pub fn group_of(&mut self, table: &Table) -> u32 {
+        let Table { l, entries } = table;
+        let any = self.set(*l);
+        let mut made = 0;
+        for _ in 0..self.within(1, 3).min(entries.len()) {
+            let entry = self.pick(entries);
+            made |= self.covered_by(*l, entry);
+        }
+        let nearly = made ^ 1 << self.below(*l as usize);
+        self.pick(&[any, made, made, nearly]).max(1)
+    }
+
+    /// A string of 0 and 1 that an entry of l positions covers.
+    pub fn covered_by(&mut self, l: u32, entry: Entry) -> u32 {
+        entry.value | self.word() & low_bits(l) & !entry.care
+    }
+
     /// A set of some of X1 to Xl, sometimes an empty one.
     pub fn set(&mut self, l: u32) -> u32 {
         let one = 1 << self.below(l as usize);
