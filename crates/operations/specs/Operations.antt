@@ -1,10 +1,12 @@
 -- The operations on table values (01, "Refusals"): the table's own 2, 3, 4, of two tables the first's first; then the
 -- equation's checks, 10 or 11; then 8. A refusal returns the table as given, of two the first, and one all zero where none came in.
+use mathlib.Core.Path.{_≡_}
 use mathlib.Core.Bool.{Bool, _&&_, cond}
 use mathlib.Core.List.{List, map}
 use Prim.Native.Nat.{ℕ, _^_}
 use lib.Dec.{ltb, eqb}
 use Rattle.model.specs.Growth.{convert}
+use Rattle.model.specs.Terms.{Term}
 use Rattle.model.specs.Tables.{positive, negative, change-side, join, kept, projection}
 use Rattle.model.specs.Tables as M
 use Rattle.model.specs.Equations.{equation}
@@ -16,7 +18,11 @@ use Rattle.tables.specs.declared.Answered.{Answered}
 use Rattle.tables.specs.Refusals.{if-accepted}
 use Rattle.tables.specs.Values.{good-width, zero-table, entries-of, refuses, made-or-full, check-table}
 use Rattle.conversion.specs.Conversion.{all-below}
-use Rattle.terms.specs.Checks.{check-equation, check-sides, if-read, Written, one-term, two-terms}
+use Rattle.terms.specs.Checks as C
+use Rattle.terms.specs.Checks.{check-equation, check-sides, if-read, reads, Written, one-term, two-terms}
+use Rattle.terms.specs.EquationKinds.{Told}
+use Rattle.operations.specs.declared.Given.{Given}
+use Rattle.operations.specs.declared.Given.the-variants as G
 use Rattle.operations.specs.declared.Side.{Side}
 use Rattle.operations.specs.declared.Side.the-variants.{Positive, Negative}
 
@@ -35,6 +41,12 @@ convert-call l ws =
     cond (good-width l)
     (cond (all-below l ws) (made-or-full l zero-table (convert (map (set l) ws))) (refuses R.Stray zero-table))
     (refuses R.Width zero-table)
+
+-- What the checks of Xx = the term of the tokens ts come to in code: a term was read, and the value tells that equation; or they
+-- refuse.
+abbrev pub GivenAs : ℕ → ℕ → List ℕ → Given → Type 0
+GivenAs l x ts (G.Equation q) = (u : Term) × (check-equation l x ts ≡ reads u) × Told l q (record { left = x; right = u })
+GivenAs l x ts (G.Refused r) = check-equation l x ts ≡ C.refuses r
 
 -- The equation Xx = the term of the tokens ts: 2, 3, 4; 7; 5 of x; 5 of the tokens; 6; 8.
 unfoldable pub equation-call : M.Side → Table → ℕ → List ℕ → Answered

@@ -29,7 +29,7 @@ ghost use Rattle.procedures.specs.Parts.{OfSets};
 ghost use Rattle.terms.specs.EquationKinds.{Told};
 ghost use Rattle.walks.specs.Cursors.{Rest};
 ghost use Rattle.operations.specs.Operations.{side-of, side-numbered, convert-call, equation-call, unify-call, join-call};
-ghost use Rattle.operations.specs.Operations.{projection-call, change-side-call};
+ghost use Rattle.operations.specs.Operations.{projection-call, change-side-call, GivenAs};
 
 // A table is positive or negative.
 pub enum Side {
@@ -166,17 +166,33 @@ fn equation_read(side: Side, t: Table, e: Equation) -> Answered
     }
 }
 
+// An equation that was handed over: as the procedures need it, or the refusal of its checks.
+pub enum Given {
+    Equation(Equation),
+    Refused(Refusal),
+}
+
+// Reads the equation Xx = the term of the tokens. Inner: not a public call.
+pub fn read_equation(l: u32, x: u32, ts: &[u16]) -> Given
+    requires { ⌜ l ≤ 32 ⌝ }
+    ensures { λ r. ⌜ GivenAs l x (now (ts .entry)) r ⌝ }
+{
+    match terms::check_equation(l, x, ts) {
+        Checked::Refused(r) => Given::Refused(r),
+        Checked::Variables(m) => {
+            Given::Equation(terms::equation_of(1u32 << (x - 1), m, ts.len()))
+        }
+    }
+}
+
 // The equation Xx = the term of the tokens, on a checked table. Inner: not a public call.
 pub fn equation_checked(side: Side, t: Table, x: u32, ts: &[u16]) -> Answered
     requires { ⌜ GoodTable t ⌝ }
     ensures { λ r. ⌜ r ≡ equation-call (side-of side) t x (now (ts .entry)) ⌝ }
 {
-    let l = t.l;
-    match terms::check_equation(l, x, ts) {
-        Checked::Refused(r) => refused(r, t),
-        Checked::Variables(m) => {
-            equation_read(side, t, terms::equation_of(1u32 << (x - 1), m, ts.len()))
-        }
+    match read_equation(t.l, x, ts) {
+        Given::Refused(r) => refused(r, t),
+        Given::Equation(e) => equation_read(side, t, e),
     }
 }
 

@@ -2,10 +2,10 @@
 // x = t, and why or why not. No list is grown, so no call meets 8.
 pub mod entries; // the entries that cover groups inside s
 
+use operations::Given;
 use tables::Answer;
 use tables::Refusal;
 use tables::Table;
-use terms::Checked;
 use terms::Equation;
 use terms::Kind;
 use words::Entry;
@@ -205,11 +205,9 @@ pub fn judge_checked(t: Table, x: u32, ts: &[u16], s: u32) -> Verdict
     requires { ⌜ GoodTable t ⌝ }
     ensures { λ r. ⌜ r ≡ reason-call t x (now (ts .entry)) s ⌝ }
 {
-    match terms::check_equation(t.l, x, ts) {
-        Checked::Refused(r) => Verdict::Refused(r),
-        Checked::Variables(m) => {
-            judge_read(t, terms::equation_of(1u32 << (x - 1), m, ts.len()), s)
-        }
+    match operations::read_equation(t.l, x, ts) {
+        Given::Refused(r) => Verdict::Refused(r),
+        Given::Equation(e) => judge_read(t, e, s),
     }
 }
 

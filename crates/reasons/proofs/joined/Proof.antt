@@ -1,6 +1,7 @@
 -- The tests come in the order of the definition: the x entry, the t entry, whether the groups together are s.
 use mathlib.Core.Path.{_≡_, sym, _∙_}
-use mathlib.Core.Bool.{Bool}
+use mathlib.Core.Bool.{Bool, true, false}
+use mathlib.Core.Option.{some}
 use Prim.Native.Nat.{ℕ}
 use borrow.Author.Tests.{eq-eqb, ne-eqb}
 use lib.Bits.{bitOr}
@@ -12,6 +13,7 @@ use Rattle.model.specs.Reasons.{together, made-up}
 use Rattle.model.proofs.Bits.{or-length}
 use Rattle.words.specs.Words.{set-word}
 use Rattle.words.proofs.Codec.{set-word-or}
+use Rattle.lists.specs.WorkingLists.{Holds}
 use Rattle.reasons.specs.Verdicts.{joins, touched}
 use Rattle.reasons.proofs.Searching.{made-up-word}
 use Rattle.reasons.proofs.Verdicts.{found-past, found-at}
@@ -51,19 +53,26 @@ returns-2 c l τ x t k h nx nt nk is-x is-t is-s =
 together-requires : tie.Need-together-requires
 together-requires c κs = search needs
 
-returns-3 : tie.Need-returns-3
-unfolding touched joins
-returns-3 c l τ x t k h nx nt nk is-x is-t is-s =
-    let at-together = c .before in
-    let at-t = at-together .before .before in
+-- both entries are there, and the last test decides
+both-found : (c : tie.After-together) → let at-t = c .before .before in let a = at-t .before .before .before .args in
+    (l : ℕ) (τ : Entries) (x t k : Bits) → Holds l (a .list .now) (a .n) τ → length x ≡ l → length t ≡ l → length k ≡ l
+    → a .mx ≡ set-word x → a .mt ≡ set-word t → a .s ≡ set-word k → (b : Bool) → eqb (c .together .result) (a .s) ≡ b
+    → joins (some (at-t .before .before .lowest .result)) (some (at-t .lowest2 .result)) b ≡ touched l x t τ k
+unfolding touched
+both-found c l τ x t k h nx nt nk is-x is-t is-s b e =
+    let at-t = c .before .before in
     let at-x = at-t .before .before in
-    let m = at-together .together .ensures l τ k (or x t) h nk (or-length x t l nx nt) is-s (or-word x t is-x is-t) in
+    let m = c .together .ensures l τ k (or x t) h nk (or-length x t l nx nt) is-s (or-word x t is-x is-t) in
     rw (
       sym (at-x .lowest .ensures .1 l τ k x h nk nx is-s is-x) ∙ found-at (at-x .lowest .ensures .0) (at-t .before .if1 .left),
-      sym (at-t .lowest2 .ensures .1 l τ k t h nk nt is-s is-t)
-          ∙ found-at (at-t .lowest2 .ensures .0) (at-together .before .if2 .left),
-      made-up-test k (or x t) τ nk m is-s (ne-eqb _ _ (c .if3 .taken)),
+      sym (at-t .lowest2 .ensures .1 l τ k t h nk nt is-s is-t) ∙ found-at (at-t .lowest2 .ensures .0) (c .before .if2 .left),
+      made-up-test k (or x t) τ nk m is-s e,
     )
+
+returns-3 : tie.Need-returns-3
+unfolding joins
+returns-3 c l τ x t k h nx nt nk is-x is-t is-s =
+    both-found (c .before) l τ x t k h nx nt nk is-x is-t is-s false (ne-eqb _ _ (c .if3 .taken))
 
 cast-t11 : tie.Need-cast-t11
 cast-t11 c = search needs
@@ -72,18 +81,9 @@ cast-t12 : tie.Need-cast-t12
 cast-t12 c = search needs
 
 returns-4 : tie.Need-returns-4
-unfolding touched joins
+unfolding joins
 returns-4 c l τ x t k h nx nt nk is-x is-t is-s =
-    let at-together = c .before in
-    let at-t = at-together .before .before in
-    let at-x = at-t .before .before in
-    let m = at-together .together .ensures l τ k (or x t) h nk (or-length x t l nx nt) is-s (or-word x t is-x is-t) in
-    rw (
-      sym (at-x .lowest .ensures .1 l τ k x h nk nx is-s is-x) ∙ found-at (at-x .lowest .ensures .0) (at-t .before .if1 .left),
-      sym (at-t .lowest2 .ensures .1 l τ k t h nk nt is-s is-t)
-          ∙ found-at (at-t .lowest2 .ensures .0) (at-together .before .if2 .left),
-      made-up-test k (or x t) τ nk m is-s (eq-eqb _ _ (c .if3 .left)),
-    )
+    both-found (c .before) l τ x t k h nx nt nk is-x is-t is-s true (eq-eqb _ _ (c .if3 .left))
 
 pub joined-spec : {M : Type 1} → statement M
 joined-spec =
