@@ -333,8 +333,7 @@ module _ (l : ℕ) (s : Bits) (whole : length s ≡ l) (m : Bits) where
   unfolding together
   together-length τ = set-of-length l (λ y. some-group l (λ g. covered τ g && (touches s m g && has g y)))
 
-  -- The groups are inside s, so that they make up s exactly where together they are s.
-  pub together-inside : (τ : Entries) → Inside s (together l s m τ)
+  together-inside : (τ : Entries) → Inside s (together l s m τ)
   unfolding together
   together-inside τ y h =
       let w = together-exact τ y .0 (has-set-of l (λ y. some-group l (λ g. covered τ g && (touches s m g && has g y))) y h) in
@@ -348,6 +347,16 @@ module _ (l : ℕ) (s : Bits) (whole : length s ≡ l) (m : Bits) where
       let i = inside-exact (together l s m τ) s (whole ∙ sym (together-length τ)) in (
         λ h y k. together-exact τ y .0 (has-set-of l p y (i .0 h y k)),
         λ f. i .1 (λ y k. set-of-has l p y s whole k (together-exact τ y .1 (f y k))),
+      )
+
+  -- They make up s exactly where together they are s.
+  pub made-up-together : (τ : Entries) → T (made-up l s m τ) ↔ (together l s m τ ≡ s)
+  unfolding made-up
+  made-up-together τ =
+      let g = together l s m τ in
+      let i = inside-exact g s (whole ∙ sym (together-length τ)) in (
+        λ h. same-variables s g (together-length τ ∙ sym whole) (together-inside τ) (i .0 h),
+        λ e. i .1 (λ y k. rw e k),
       )
 
 -- ---- The lowest entry

@@ -74,6 +74,6 @@ lowest p (e ∷ τ) = cond (p e) (some 0) (next (lowest p τ))
 unfoldable pub together : ℕ → Bits → Bits → Entries → Bits
 together l s m τ = set-of l (λ y. some-group l (λ g. covered τ g && (touches s m g && has g y)))
 
--- These groups make up s: each variable of s is one of theirs, which are no others.
+-- These groups make up s: each variable of s is in one of them. They are inside s, so that together they are s then.
 unfoldable pub made-up : ℕ → Bits → Bits → Entries → Bool
 made-up l s m τ = inside (together l s m τ) s

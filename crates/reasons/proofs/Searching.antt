@@ -20,7 +20,7 @@ use Rattle.model.proofs.Tests.{or-cases, or-left, or-right, same-test, decide, 
 use Rattle.model.proofs.Bits.{or-length, meets-nonzero}
 use Rattle.model.proofs.Variables.{has-set-of, set-of-has, meets-has, has-meets}
 use Rattle.model.proofs.Strings.{covers-length}
-use Rattle.model.proofs.Reasons.{has-or, same-variables, inside-exact, together-exact, together-length, together-inside}
+use Rattle.model.proofs.Reasons.{has-or, same-variables, together-exact, together-length, made-up-together}
 use Rattle.model.proofs.Reasons.{lowest-is, lowest-none}
 use Rattle.words.specs.Words.{set, set-word}
 use Rattle.words.proofs.Codec.{set-word-or, set-set-word}
@@ -199,22 +199,11 @@ module _ {l : ℕ} {list : List ℕ} {n : ℕ} {τ : Entries} (h : Holds l list 
 -- The groups make up s exactly where their word is that of s.
 pub made-up-word : (l : ℕ) (s m : Bits) (τ : Entries) → length s ≡ l
     → eqb (set-word (together l s m τ)) (set-word s) ≡ made-up l s m τ
-unfolding made-up
-made-up-word l s m τ whole = same-test (eqb (set-word g) (set-word s)) (inside g s) there back
-  where
-    g : Bits
-    g = together l s m τ
-
-    long : length g ≡ length s
-    long = together-length l s whole m τ ∙ sym whole
-
-    there : T (eqb (set-word g) (set-word s)) → T (inside g s)
-    there h =
-        let same : g ≡ s =
-        sym (set-set-word g) ∙ ap₂ set long (eqb→eq (set-word g) (set-word s) h) ∙ set-set-word s in
-        inside-exact g s (sym long) .1 (λ y k. rw same k)
-
-    back : T (inside g s) → T (eqb (set-word g) (set-word s))
-    back h =
-        let same = same-variables s g long (together-inside l s whole m τ) (inside-exact g s (sym long) .0 h) in
-        rw same (eqb-refl (set-word s))
+made-up-word l s m τ whole =
+    let g = together l s m τ in
+    let long : length g ≡ length s = together-length l s whole m τ ∙ sym whole in
+    let made = made-up-together l s whole m τ in
+    same-test (eqb (set-word g) (set-word s)) (made-up l s m τ)
+    (λ h.
+    made .1 (sym (set-set-word g) ∙ ap₂ set long (eqb→eq (set-word g) (set-word s) h) ∙ set-set-word s))
+    (λ h. rw (made .0 h) (eqb-refl (set-word s)))
