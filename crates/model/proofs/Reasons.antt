@@ -41,7 +41,7 @@ has-bound [] (suc i) h = absurd h
 has-bound (b ∷ s) (suc zero) h = omega arith
 has-bound (b ∷ s) (suc (suc i)) h = omega (arith, has-bound s (suc i) h)
 
-inside-tail : (a b : Bool) (s g : Bits) → Inside (b ∷ s) (a ∷ g) → Inside s g
+pub inside-tail : (a b : Bool) (s g : Bits) → Inside (b ∷ s) (a ∷ g) → Inside s g
 unfolding has
 inside-tail a b s g f zero h = absurd h
 inside-tail a b s g f (suc i) h = f (suc (suc i)) h

@@ -14,7 +14,7 @@ use Rattle.model.specs.Reasons.{Inside, covers-inside}
 use Rattle.model.proofs.Tests.{and-first, and-second, and-both, same-test, decide, true-of, false-of}
 use Rattle.model.proofs.Bits.{meets-nonzero}
 use Rattle.model.proofs.Variables.{meets-has, has-meets}
-use Rattle.model.proofs.Reasons.{covers-inside-exact}
+use Rattle.model.proofs.Reasons.{inside-tail, covers-inside-exact}
 use Rattle.words.specs.Words.{zero-bit, value-bit, zeros-of, value-of, word, set-word}
 use Rattle.words.proofs.Codec.{bit-lt, apart-words}
 use Rattle.words.proofs.Digits.{zero-bit-lt, value-bit-lt, eqb-digit, digits-equal}
@@ -59,11 +59,6 @@ rest-covered (b ∷ s) (t ∷ e) n h =
 
 -- ---- A string inside s that the entry covers
 
-inside-rest : (b c : Bool) (s g : Bits) → Inside (b ∷ s) (c ∷ g) → Inside s g
-unfolding has
-inside-rest b c s g f zero h = absurd h
-inside-rest b c s g f (suc i) h = f (suc (suc i)) h
-
 -- every 1 of the entry is in s
 covered-digit : (b c : Bool) (t : Trit) → T (covers-digit t c) → (T c → T b) → T (fits-digit b t)
 covered-digit b c t0 h f = tt
@@ -77,7 +72,7 @@ covered-fits (b ∷ s) [] g h f = tt
 covered-fits (b ∷ s) (t ∷ e) [] h f = absurd h
 covered-fits (b ∷ s) (t ∷ e) (c ∷ g) h f =
     and-both (fits-digit b t) (fits s e) (covered-digit b c t (and-first (covers-digit t c) (covers e g) h) (f 1))
-    (covered-fits s e g (and-second (covers-digit t c) (covers e g) h) (inside-rest b c s g f))
+    (covered-fits s e g (and-second (covers-digit t c) (covers e g) h) (inside-tail c b s g f))
 
 -- and the string is inside what of s is not 0 in the entry
 greater : (c : Bool) (t : Trit) → T (covers-digit t c) → T c → T (greatest-digit t)
@@ -95,7 +90,7 @@ covered-inside [] (t ∷ e) (c ∷ g) h f (suc i) k = f (suc i) k
 covered-inside (b ∷ s) (t ∷ e) (c ∷ g) h f (suc zero) k =
     and-both b (greatest-digit t) (f 1 k) (greater c t (and-first (covers-digit t c) (covers e g) h) k)
 covered-inside (b ∷ s) (t ∷ e) (c ∷ g) h f (suc (suc i)) k =
-    covered-inside s e g (and-second (covers-digit t c) (covers e g) h) (inside-rest b c s g f) (suc i) k
+    covered-inside s e g (and-second (covers-digit t c) (covers e g) h) (inside-tail c b s g f) (suc i) k
 
 -- ---- The largest group
 
