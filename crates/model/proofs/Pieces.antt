@@ -33,12 +33,18 @@ opposite_digit t* f m = f
 -- A piece does not match v.
 pub piece_unmatched : (y v z : Trits) → Piece y v z → ¬ (T (matches z v))
 unfolding matches
+piece_unmatched [] v z p m = elim p [ ]
+piece_unmatched (t ∷ y) [] z p m = elim p [ ]
+piece_unmatched (t ∷ y) (u ∷ v) [] p m = elim p [ ]
 piece_unmatched (t ∷ y) (u ∷ v) (w ∷ z) (here f) m = opposite_digit u f (and_first (match_digit w u) (matches z v) m)
 piece_unmatched (t ∷ y) (u ∷ v) (w ∷ z) (there p) m = piece_unmatched y v z p (and_second (match_digit t u) (matches z v) m)
 
 -- The whole subsumes the piece.
 pub piece_within : (y v z : Trits) → Piece y v z → T (subsumes y z)
 unfolding subsumes
+piece_within [] v z p = elim p [ ]
+piece_within (t ∷ y) [] z p = elim p [ ]
+piece_within (t ∷ y) (u ∷ v) [] p = elim p [ ]
 piece_within (t ∷ y) (u ∷ v) (w ∷ z) (here f) = subsumes_same y
 piece_within (t ∷ y) (u ∷ v) (w ∷ z) (there p) = and_both (subsumes_digit t t) (subsumes y z) (self t) (piece_within y v z p)
   where
@@ -50,6 +56,9 @@ piece_within (t ∷ y) (u ∷ v) (w ∷ z) (there p) = and_both (subsumes_digit 
 -- A string that matches v and subsumes the piece subsumes the whole.
 pub piece_up : (y v z r : Trits) → T (matches y v) → Piece y v z → T (matches r v) → T (subsumes r z) → T (subsumes r y)
 unfolding matches subsumes
+piece_up [] v z r m p n h = elim p [ ]
+piece_up (t ∷ y) [] z r m p n h = elim p [ ]
+piece_up (t ∷ y) (u ∷ v) [] r m p n h = elim p [ ]
 piece_up (t ∷ y) (u ∷ v) (w ∷ z) [] m p n h = absurd h
 piece_up (t ∷ y) (u ∷ v) (w ∷ z) (x ∷ r) m (here f) n h = search (tests, star x u)
   where
@@ -67,6 +76,9 @@ piece_up (t ∷ y) (u ∷ v) (w ∷ z) (x ∷ r) m (there p) n h = search (tests
 pub piece_only : (y v z r : Trits) → T (matches y v) → Piece y v z → T (subsumes y r) → T (subsumes r z)
     → ¬ (T (matches r v)) → r ≡ z
 unfolding matches subsumes
+piece_only [] v z r m p k h n = elim p [ ]
+piece_only (t ∷ y) [] z r m p k h n = elim p [ ]
+piece_only (t ∷ y) (u ∷ v) [] r m p k h n = elim p [ ]
 piece_only (t ∷ y) (u ∷ v) (w ∷ z) [] m p k h n = absurd h
 piece_only (t ∷ y) (u ∷ v) (w ∷ z) (x ∷ r) m (here f) k h n =
     let i : T (subsumes r y) = search (tests) in
@@ -89,6 +101,9 @@ piece_only (t ∷ y) (u ∷ v) (w ∷ z) (x ∷ r) m (there p) k h n =
 -- What subsumes a piece is opposed to v at one position at most.
 pub piece_edge : (y v z e : Trits) → T (matches y v) → Piece y v z → T (subsumes e z) → T (ltb (opposed_count e v) 2)
 unfolding matches subsumes opposed_count
+piece_edge [] v z e m p h = elim p [ ]
+piece_edge (t ∷ y) [] z e m p h = elim p [ ]
+piece_edge (t ∷ y) (u ∷ v) [] e m p h = elim p [ ]
 piece_edge (t ∷ y) (u ∷ v) (w ∷ z) [] m p h = absurd h
 piece_edge (t ∷ y) (u ∷ v) (w ∷ z) (x ∷ e) m (here f) h =
     rw (matched_nowhere e v (wider_matches e y v (search (tests)) m)) (one (match_digit x u))
