@@ -1,12 +1,12 @@
 -- An entry e stirs a string s that was widened to t where the lowest position that it opens, of those fixed in t, is below
 -- all that it fixes and t does not. Assumes nothing.
-use Rattle.std.proofs.Common.{◌≡◌, ℕ, zero, suc, ◌+◌, ◌-◌, ◌*◌, ◌^◌, ◌<◌, ◌≤◌, Bool, true, false, not, ◌&&◌, ◌||◌, eqb, [], ◌∷◌, length, sym, refl, ap, ◌∙◌, ap₂, arith, lit<, eq-eqb, ne_eqb, eqb-true}
+use Rattle.std.proofs.Common.{◌≡◌, ℕ, zero, suc, ◌+◌, ◌-◌, ◌*◌, ◌<◌, Bool, true, false, not, ◌&&◌, ◌||◌, eqb, ◌∷◌, length, sym, refl, ap, ◌∙◌, ap₂, arith, lit<, ne_eqb, eqb-true}
 use borrow.Author.Tests.{eqb-false}
 use lib.Bits.{bit_and, bit_xor, and_block, xor_block, and_lt, xor_lt, and_zero_l}
-use Rattle.model.specs.Strings.{Trit, t0, t1, t*, Trits, fixed_digit, flip, subsumes_digit, subsumes}
+use Rattle.model.specs.Strings.{Trit, Trits, fixed_digit, flip, subsumes_digit, subsumes}
 use Rattle.model.specs.Stirring.{stirs}
 use Rattle.words.specs.Words.{care_bit, care_of, set_word, openings}
-use Rattle.words.proofs.Digits.{care_bit_lt, digits_equal, nine, never, never', eqb_digit}
+use Rattle.words.proofs.Digits.{care_bit_lt, digits_equal, nine, eqb_digit}
 use Rattle.words.proofs.Codec.{bit_lt}
 use Rattle.words.proofs.LackedBits.{head_digit, openings_kept, openings_lost}
 use Rattle.words.proofs.Shades.{wider, widened}

@@ -2,6 +2,8 @@
 // The zeros of a string are the high half of its word, its ones the low half; that serves every width from 1 to 32.
 // Each contract says what comes out for any words, and for the words of strings of any one length to 32 that it is the
 // model's operation.
+#![tactic(auto)]
+
 ghost use Rattle.std.specs.Prelude.{◌≡◌, ◌-◌, ◌^◌, ◌<◌, ◌≤◌, true, false, map, length, ◌==◌, bit_or, count_ones, nat_lt};
 ghost use Rattle.model.specs.Groups.{Bits, cut as cut-string};
 ghost use Rattle.model.specs.Strings.{Trits, subsumes as subsumes-string, matches as matches-string, meet as meet-string};

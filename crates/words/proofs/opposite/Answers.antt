@@ -3,15 +3,14 @@ use Rattle.std.proofs.Common.{◌∙◌}
 use Rattle.words.specs.Words.{opposite_word}
 use Rattle.words.proofs.Halves.{halves_or, high_lt, low_lt}
 use Rattle.words.proofs.Words.{word_opposite}
-use Rattle.words.proofs.opposite.Statement.{statement}
-use Rattle.words.proofs.opposite.Tie as tie
+use Rattle.words.proofs.opposite.Goals as goal
 
-returns : tie.Need-returns
+pub returns : goal.returns
 unfolding opposite_word
 returns c =
     let a = c.args.a in
     let is = halves_or _ _ (low_lt a) (high_lt a c.ranges.a.fits) in
-    (is, λ s short ea. is ∙ rw ea (word_opposite s short))
-
-pub opposite_spec : {M : Type 1} → statement M
-opposite_spec = tie.close (tie.spec returns)
+    record {
+      words = is;
+      strings = λ s short ea. is ∙ rw ea (word_opposite s short);
+    }
