@@ -1,23 +1,23 @@
 -- Growing by a string that changed nothing, or that the list was grown by, changes nothing while no string is appended that
 -- stirs it. Assumes nothing.
 use mathlib.Core.Path.{◌≡◌, refl, sym, ap, ◌∙◌, subst}
-use mathlib.Core.Bool.{Bool, true, false, ◌&&◌, ◌||◌}
+use mathlib.Core.Bool.{false, ◌&&◌}
 use mathlib.Core.List.{[], ◌∷◌, ◌++◌}
 use mathlib.Core.Logic.{◌⊎◌, inl, inr, ⊎_elim}
 use Prim.Native.Nat.{ℕ, zero, suc, ◌≤◌, ◌<◌, suc-le-suc, zero-le}
 use native.Mathlib.Nat.{le_of_suc-le-suc, not-suc-le-zero}
 use native.Mathlib.Omega.{arith}
-use lib.Dec.{T, ltb}
+use lib.Dec.{T}
 use lib.ListN.{length}
-use Rattle.model.specs.Strings.{Trit, t0, t1, t*, Trits, subsumes_digit, subsumes, all_zero, fixed_digit, flip, fixed}
-use Rattle.model.specs.Strings.{fixed_count, flipped, starred}
-use Rattle.model.specs.Growth.{Entries, subsumed, remove, widen_at, widen_from, widen, absorbed}
+use Rattle.model.specs.Strings.{Trit, t0, t1, t*, Trits, subsumes_digit, subsumes, fixed_digit, flip, fixed}
+use Rattle.model.specs.Strings.{flipped, starred}
+use Rattle.model.specs.Growth.{Entries, subsumed, remove, widen_at, widen_from, widen}
 use Rattle.model.specs.Stirring.{stirs}
 use Rattle.model.specs.Widest.{EntryOf}
-use Rattle.model.proofs.Tests.{tests, or_cases, or_left, or_right, and_first, and_second, and_both, decide}
+use Rattle.model.proofs.Tests.{or_cases, or_left, or_right, and_first, and_second, and_both, decide}
 use Rattle.model.proofs.Subsuming.{digit_trans, subsumes_same, subsumes_trans}
 use Rattle.model.proofs.Entries.{entry_append, subsumed_append, above, entry_subsumes, entry_without, remove_without}
-use Rattle.model.proofs.Stability.{PartOf, flipped_within, at_over, from_over, opens, opens_fixed, opens_many}
+use Rattle.model.proofs.Stability.{PartOf, at_over, from_over, opens, opens_fixed, opens_many}
 use Rattle.model.proofs.Stability.{opens_subsumed, opens_all, opened, unopened, opens_within, part_without}
 
 -- ---- A position stays fixed once Widen has passed it

@@ -8,14 +8,14 @@ use Prim.Native.Nat.{ℕ, zero, suc, ◌+◌, ◌≤◌, ◌<◌}
 use native.Mathlib.Omega.{arith}
 use lib.Dec.{T, ltb, ltb→lt, nltb→le, lt→ltb}
 use lib.ListN.{length}
-use Rattle.model.specs.Strings.{Trit, t0, t1, t*, Trits, subsumes_digit, subsumes, all_zero, fixed_digit, flip, fixed}
+use Rattle.model.specs.Strings.{Trit, t0, t1, t*, Trits, subsumes_digit, subsumes, fixed_digit, flip, fixed}
 use Rattle.model.specs.Strings.{fixed_count, flipped, starred}
 use Rattle.model.specs.Growth.{Entries, subsumed, widen_at, widen_from, widen, Stable}
 use Rattle.model.proofs.Tests.{tests, or_cases, or_left, or_right, and_first, and_second, and_both, true_of, false_of}
 use Rattle.model.proofs.Tests.{decide}
 use Rattle.model.proofs.Strings.{subsumes_covers, subsumes_exact}
 use Rattle.model.proofs.Positions.{starred_covers, starred_length}
-use Rattle.model.proofs.Subsuming.{subsumes_same, subsumes_trans, subsumes_both}
+use Rattle.model.proofs.Subsuming.{subsumes_same, subsumes_both}
 use Rattle.model.proofs.Entries.{subsumed_within, subsumed_append, without}
 
 -- ---- A string z that subsumes y

@@ -1,6 +1,7 @@
 // The operations on table values, of both sides: conversion, equation, two terms set equal, join, projection and change of
 // side.
 // A refusal returns the table as given; of two tables, the first.
+#![tactic(auto)]
 ghost use Rattle.std.specs.Prelude.{◌≡◌, List, ℕ, ◌≤◌, length};
 ghost use Rattle.std.proofs.Math.Option.{some};
 ghost use Rattle.model.specs.Groups.{Bits};

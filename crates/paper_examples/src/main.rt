@@ -10,6 +10,7 @@
 //   and the result of Example 4.4 cover 0000, which is no group, so this changes nothing.
 // - Steps (ii) and (iii) of Example 4.4 are misprinted: the complement of {110*, 101*} is {0***, 100*, 111*}, and that of
 //   its closure {0***, 100*}. The result (v) is right: it has the groups of Example 3.8, which starts from the same groups.
+#![tactic(auto)]
 ghost use Rattle.std.specs.Prelude.{◌≡◌, ◌+◌, ◌≤◌, ◌<◌, length};
 
 use libc::STDOUT_FILENO;

@@ -1,4 +1,5 @@
 // Reads a positive table and then equations on standard input, and prints the table and what each equation makes of it.
+#![tactic(auto)]
 use libc::{STDIN_FILENO, STDOUT_FILENO};
 
 // One byte more than an input may have (most-input): what follows it cannot change the answer.

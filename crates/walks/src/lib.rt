@@ -1,6 +1,7 @@
 // The walk of two terms on their rows of tokens. A term stands in prefix order, so two cursors do, with no recursion: equal
 // heads move both on by one, and a variable passes over the whole term across. Nothing of the walk is stored. Inner: not a
 // public call.
+#![tactic(auto)]
 ghost use Rattle.std.specs.Prelude.{◌≡◌, ℕ};
 ghost use Rattle.model.specs.Walk.{Walked};
 ghost use Rattle.walks.specs.Cursors.{Across, Rest, Next, clash};

@@ -1,0 +1,11 @@
+-- Loop: `out` has the first i numbers, then zeros (`read_turn`).
+use mathlib.Core.Path.{◌≡◌}
+use Prim.Native.Nat.{◌-◌, ◌≤◌}
+use Rattle.codec.specs.Numbers.{numbers, with_zeros}
+use Rattle.codec.proofs.few_tokens.Given as goal
+
+abbrev pub invariant-loop-i : goal.invariant-loop-i
+invariant-loop-i l = (l.i ≤ l.n) × (l.out ≡ with_zeros 32 (numbers l.i l.b))
+
+abbrev pub decreases-loop-i : goal.decreases-loop-i
+decreases-loop-i l = l.n - l.i
