@@ -24,7 +24,6 @@ use Rattle.tables.proofs.Arrays.{list_words_at}
 use Rattle.lists.specs.declared.Grown.{Grown}
 use Rattle.lists.specs.declared.Grown.TheVariants.{Count, Full}
 use Rattle.lists.specs.declared.values.Came.{Came}
-use Rattle.lists.specs.declared.values.Came.TheVariants as Came
 use Rattle.lists.specs.WorkingLists.{Holds, Makes}
 use Rattle.lists.specs.Comings.{Bounded, Comes, turned, stayed, counted}
 use Rattle.lists.proofs.Holding.{makes_count, makes_full, run_turn, run_stays}

@@ -1,0 +1,46 @@
+use mathlib.Core.Path.{◌≡◌, refl, sym, ◌∙◌}
+use mathlib.Core.Bool.{Bool}
+use mathlib.Core.List.{List}
+use Prim.Native.Nat.{ℕ}
+use native.Mathlib.Omega.{arith}
+use lib.ListN.{get_or}
+use Rattle.model.specs.Growth.{subsumed}
+use Rattle.words.specs.Words.{subsumes_word}
+use Rattle.tables.specs.Lists.{some_from}
+use Rattle.tables.proofs.Scans.{some_scan, scan_start, block_found, block_none, block_last}
+use Rattle.lists.specs.WorkingLists.{OfString}
+use Rattle.lists.proofs.WordTests.{holds_subsumed}
+use Rattle.lists.proofs.growth.subsumed.Goals as goal
+
+-- what is answered of the words is so of the strings
+of_strings : {list : List ℕ} {n y : ℕ} {r : Bool} → r ≡ some_from 0 n (λ m. subsumes_word (get_or list m 0) y)
+    → (l : ℕ) → OfString l list n y (λ τ s. r ≡ subsumed τ s)
+of_strings e = λ l τ s h long is. e ∙ holds_subsumed h s long is
+
+pub returns-then-n-lt8 : goal.returns-then-n-lt8
+returns-then-n-lt8 c =
+    let e = c.some_subsumes.ensures ∙ sym (scan_start some_scan _ _) in record { words = e; strings = of_strings e }
+
+pub loop-i-init : goal.loop-i-init
+unfolding some_from
+loop-i-init c = (omega arith, refl)
+
+pub returns-then-some_subsumes : goal.returns-then-some_subsumes
+returns-then-some_subsumes c =
+    let lp = c.loop-i in
+    let some = sym c.some_subsumes-in-loop-i.ensures ∙ c.if-some_subsumes.true in
+    let e = sym (block_found _ lp.i _ _ (omega arith) (omega arith) some) in
+    record { words = e; strings = of_strings e }
+
+pub loop-i-preserved : goal.loop-i-preserved
+loop-i-preserved c =
+    let lp = c.loop-i in (
+      omega arith,
+      block_none _ lp.i _ (omega arith) lp.invariant.1 (sym c.some_subsumes-in-loop-i.ensures ∙ c.if-some_subsumes.false),
+    )
+
+pub returns : goal.returns
+returns c =
+    let lp = c.loop-i in
+    let e = c.some_subsumes-2.ensures ∙ block_last _ _ lp.i _ (omega arith) (omega arith) lp.invariant.1 in
+    record { words = e; strings = of_strings e }
