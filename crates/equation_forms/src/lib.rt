@@ -10,14 +10,14 @@ use tables::{Answer, Refusal};
 use terms::Checked;
 
 // What stands on the left of each equation of a form: a variable, or a term.
-#[derive(Drop)]
+#[derive(Clone, Copy)]
 pub enum Left {
     Variable,
     Term,
 }
 
 // A place among the e equations of a form: k equations and their `at` tokens stand before it.
-#[derive(Drop)]
+#[derive(Clone, Copy)]
 pub struct Cursor {
     pub e: usize,
     pub k: usize,

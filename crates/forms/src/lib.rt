@@ -16,21 +16,21 @@ ghost use Rattle.forms.specs.Listings.{Reads};
 use tables::{Answer, Answered, Refusal, Table};
 
 // Where a form ends: it is all the bytes, or more may follow it.
-#[derive(Drop)]
+#[derive(Clone, Copy)]
 pub enum Extent {
     Whole,
     Front,
 }
 
 // How a form has its entries: care and value words, or a row of bytes each, five positions to a byte.
-#[derive(Drop)]
+#[derive(Clone, Copy)]
 pub enum Layout {
     Plain,
     Packed,
 }
 
 // What comes of reading a form into a list that is lent: a refusal, or so many entries of it, of so many variables.
-#[derive(Drop)]
+#[derive(Clone, Copy)]
 pub enum Listed {
     Refused(Refusal),
     Read { l: u32, n: usize },

@@ -7,7 +7,7 @@ pub mod filter; // growing by a row, with strings that are known to change nothi
 pub mod values; // from a table value and back
 
 // The new count of a list, or that it needs entry 257.
-#[derive(Drop)]
+#[derive(Clone, Copy)]
 pub enum Grown {
     Count(usize),
     Full,

@@ -14,7 +14,7 @@ use tables::{Answer, Answered, Refusal, Table};
 use words::Entry;
 
 // What comes of a call that is lent the list to make: a refusal, the table as it was given, or so many entries of that list.
-#[derive(Drop)]
+#[derive(Clone, Copy)]
 pub enum Came {
     Refused(Refusal),
     Same,

@@ -176,7 +176,7 @@ fn widened(list: &[u64; 256], n: usize, k: usize, l: u32, y: u64) -> u64
 
 // What a scan of the entries finds of a string: the bits that it lacks alone of an entry, the words of the entries that subsume
 // it, each put together by "or", and whether there is one.
-#[derive(Drop)]
+#[derive(Clone, Copy)]
 struct Sums {
     lacks: u64,
     over: u64,
@@ -207,7 +207,7 @@ fn scan(list: &[u64; 256], n: usize, y: u64) -> Sums
 }
 
 // What one scan of a list says of growing it by a string.
-#[derive(Drop)]
+#[derive(Clone, Copy)]
 pub enum Standing {
     // It changes nothing.
     Absorbed,

@@ -27,7 +27,7 @@ use terms::{Checked, Equation, Kind};
 use walks::Found;
 
 // A table is positive or negative.
-#[derive(Drop)]
+#[derive(Clone, Copy)]
 pub enum Side {
     Positive,
     Negative,
@@ -144,7 +144,7 @@ fn equation_read<'a>(
 }
 
 // An equation that was handed over: as the procedures need it, or the refusal of its checks.
-#[derive(Drop)]
+#[derive(Clone, Copy)]
 pub enum Given {
     Equation(Equation),
     Refused(Refusal),

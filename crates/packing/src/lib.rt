@@ -10,14 +10,14 @@ ghost use Rattle.packing.specs.Packing.{row_length, packed, row_positions, all_p
 use words::Entry;
 
 // A row that was unpacked: is it good, and the care and value of its entry.
-#[derive(Drop)]
+#[derive(Clone, Copy)]
 pub struct Unpacked {
     pub good: bool,
     pub entry: Entry,
 }
 
 // The positions of a row, five of each byte: care and value words of up to 35 bits.
-#[derive(Drop)]
+#[derive(Clone, Copy)]
 struct Positions {
     good: bool,
     care: u64,

@@ -12,7 +12,7 @@ use operations::Side;
 use tables::{Answer, Refusal, Table};
 
 // What a question is answered.
-#[derive(Drop)]
+#[derive(Clone, Copy)]
 pub enum Reply {
     Yes,
     No,

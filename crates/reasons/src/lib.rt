@@ -20,7 +20,7 @@ use terms::{Equation, Kind};
 use words::Entry;
 
 // Why a group is not there after the equation.
-#[derive(Drop)]
+#[derive(Clone, Copy)]
 pub enum Reason {
     // No entry covers a group inside s that has x.
     NoXEntry,
@@ -36,7 +36,7 @@ pub enum Reason {
 
 // What is told of a group s: it is kept; it is joined, and the lowest entries, from 0, that cover a group inside s with x and
 // one with a variable of t; or it is absent, and why.
-#[derive(Drop)]
+#[derive(Clone, Copy)]
 pub enum Verdict {
     Kept,
     Joined { x_entry: u32, t_entry: u32 },

@@ -19,7 +19,7 @@ use tables::{Answer, Answered, Table};
 // A running analysis: the answer of the call that last wrote it, the side as it was given, how many equations were accepted,
 // and the table.
 #[repr(C)]
-#[derive(Drop)]
+#[derive(Clone, Copy)]
 pub struct Running {
     pub code: u32,
     pub side: u32,
@@ -62,7 +62,7 @@ fn one_more(k: u32) -> u32
 }
 
 // The number that a step returns, and the state after it.
-#[derive(Drop)]
+#[derive(Clone, Copy)]
 pub struct Stepped {
     pub number: u32,
     pub state: Running,

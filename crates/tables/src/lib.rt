@@ -8,7 +8,7 @@ ghost use Rattle.tables.specs.Values.{all_clean, zero_past};
 
 // A table value: l variables, n entries in order, and zeros past the count. Bit i - 1 of a word is for Xi.
 #[repr(C)]
-#[derive(Drop)]
+#[derive(Clone, Copy)]
 pub struct Table {
     pub l: u32,
     pub n: usize,
@@ -17,7 +17,7 @@ pub struct Table {
 }
 
 // Why a call is refused.
-#[derive(Drop)]
+#[derive(Clone, Copy)]
 pub enum Refusal {
     Torn,
     Width,
@@ -34,14 +34,14 @@ pub enum Refusal {
 }
 
 // What a call answers.
-#[derive(Drop)]
+#[derive(Clone, Copy)]
 pub enum Answer {
     Accepted,
     Refused(Refusal),
 }
 
 // An answer with the table that goes with it.
-#[derive(Drop)]
+#[derive(Clone, Copy)]
 pub struct Answered {
     pub answer: Answer,
     pub table: Table,

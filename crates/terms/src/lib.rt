@@ -20,21 +20,21 @@ pub const ARITIES: u16 = 16;
 const TOKENS: usize = 1024;
 
 // How many tokens a term, or a row of terms, uses; or that there is none.
-#[derive(Drop)]
+#[derive(Clone, Copy)]
 enum Reading {
     Used(usize),
     NoTerm,
 }
 
 // What the checks of a term say: the set of its variables, bit i - 1 for Xi, or the refusal.
-#[derive(Drop)]
+#[derive(Clone, Copy)]
 pub enum Checked {
     Variables(u32),
     Refused(Refusal),
 }
 
 // How the left variable x of an equation x = t stands in t: t is exactly x, holds x deeper, or does not hold it.
-#[derive(Drop)]
+#[derive(Clone, Copy)]
 pub enum Kind {
     Itself,
     Deeper,
@@ -42,7 +42,7 @@ pub enum Kind {
 }
 
 // An equation x = t as the procedures need it: the set of x alone, the set of t's variables, bit i - 1 for Xi, and the kind.
-#[derive(Drop)]
+#[derive(Clone, Copy)]
 pub struct Equation {
     pub left: u32,
     pub right: u32,

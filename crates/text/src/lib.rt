@@ -6,14 +6,14 @@ pub mod runs; // a table, an equation, a run
 use running::Running;
 
 // What is answered of a run: its state, and the length of the text that was measured or written.
-#[derive(Drop)]
+#[derive(Clone, Copy)]
 pub struct Reported {
     pub state: Running,
     pub size: usize,
 }
 
 // A text is measured first, and written only where it fits.
-#[derive(Drop)]
+#[derive(Clone, Copy)]
 pub enum Pass {
     Measure,
     Write,

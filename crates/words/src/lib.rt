@@ -24,7 +24,7 @@ pub const LOW: u64 = 4294967295;
 
 // As a table has a string: bit i of `care` is 1 where position i is fixed; bit i of `value` is its value there, and 0 where
 // it is `*`.
-#[derive(Drop)]
+#[derive(Clone, Copy)]
 pub struct Entry {
     pub care: u32,
     pub value: u32,

@@ -1,0 +1,24 @@
+-- Loop: no entry before i joins the sets, so that the others decide (`positive_next`, `positive_end`).
+use mathlib.Core.Path.{◌≡◌, refl, sym, ap, ◌∙◌}
+use mathlib.Core.Bool.{Bool, not, ◌&&◌}
+use Prim.Native.Nat.{ℕ, ◌≤◌, ◌<◌, ◌+◌, ◌-◌}
+use native.Mathlib.Omega.{arith}
+use lib.ListN.{length, drop}
+use Rattle.model.specs.Groups.{Bits}
+use Rattle.model.specs.Growth.{Entries}
+use Rattle.model.specs.Tables.{positive}
+use Rattle.model.specs.Questions.{independent}
+use Rattle.words.specs.Words.{set_word}
+use Rattle.lists.specs.WorkingLists.{Holds}
+use Rattle.lists.proofs.Holding.{holds_length}
+use Rattle.covering.proofs.MeetingSets.{positive_next, positive_end}
+use borrow.Author.Rules.{rules}
+use Rattle.covering.proofs.independence.independent_positive.Given as goal
+
+abbrev pub invariant-loop-i : goal.invariant-loop-i
+invariant-loop-i v = (v.i ≤ v.n)
+    × ((l : ℕ) (τ : Entries) (x y : Bits) → Holds l v.list v.n τ → length x ≡ l → length y ≡ l → v.a ≡ set_word x → v.b ≡ set_word y
+    → independent positive l τ x y ≡ independent positive l (drop v.i τ) x y)
+
+abbrev pub decreases-loop-i : goal.decreases-loop-i
+decreases-loop-i l = l.n - l.i

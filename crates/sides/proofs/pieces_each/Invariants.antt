@@ -1,0 +1,23 @@
+-- Loop (`SoFar`): the pieces of the strings before j are appended, and to go on with the others gives the whole.
+use mathlib.Core.Path.{◌≡◌, refl}
+use mathlib.Core.List.{[]}
+use Prim.Native.Nat.{◌-◌, ◌≤◌}
+use native.Mathlib.Omega.{arith}
+use lib.ListN.{length, get_or}
+use Rattle.model.specs.Strings.{Trits}
+use Rattle.model.specs.Growth.{fold, Entries}
+use Rattle.words.specs.Words.{word}
+use Rattle.lists.specs.WorkingLists.{Holds}
+use Rattle.lists.proofs.Holding.{holds_length, within_count}
+use Rattle.lists.proofs.SoFar.{SoFar, Any, so_far_start, so_far_step, so_far_stop, so_far_end}
+use Rattle.sides.specs.Parts.{append_pieces}
+use borrow.Author.Rules.{rules}
+use Rattle.sides.proofs.pieces_each.Given as goal
+
+abbrev pub invariant-loop-j : goal.invariant-loop-j
+invariant-loop-j l = (l.j ≤ l.m) × (l.k ≤ 256)
+    × ((τ ρ κ : Entries) (t : Trits) → Holds l.l l.initial.list l.n τ → Holds l.l l.taken l.m ρ → Holds l.l l.edges l.en κ → length t ≡ l.l → l.v ≡ word t
+    → SoFar l.l (append_pieces κ t) ρ (fold (append_pieces κ t) τ ρ) Any l.list l.k l.j)
+
+abbrev pub decreases-loop-j : goal.decreases-loop-j
+decreases-loop-j l = l.m - l.j

@@ -1,0 +1,23 @@
+-- Loop (`MatchedSoFar`): of the entries before i those that match v are in `taken`, the others at the front of the list.
+use mathlib.Core.Path.{◌≡◌, sym, ◌∙◌}
+use mathlib.Core.Logic.{⊎_elim}
+use Prim.Native.Nat.{ℕ, ◌-◌, ◌≤◌}
+use native.Mathlib.Omega.{arith}
+use lib.ListN.{length, length-set}
+use Rattle.model.specs.Strings.{Trits}
+use Rattle.model.specs.Growth.{Entries}
+use Rattle.words.specs.Words.{word}
+use Rattle.lists.specs.WorkingLists.{Holds}
+use Rattle.lists.proofs.Holding.{holds_length}
+use Rattle.sides.proofs.MatchedEntries.{MatchedSoFar, matched_start, matched_more, matched_not, matched_taken}
+use Rattle.sides.proofs.MatchedEntries.{matched_left}
+use borrow.Author.Rules.{rules}
+use Rattle.sides.proofs.take.Given as goal
+
+abbrev pub invariant-loop-i : goal.invariant-loop-i
+invariant-loop-i v = (v.i ≤ v.n) × (v.k ≤ v.i) × (length v.taken ≡ 256)
+    × ((l : ℕ) (τ : Entries) (t : Trits) → Holds l v.initial.list v.n τ → length t ≡ l → v.v ≡ word t
+    → MatchedSoFar l τ v.n t v.list v.taken v.k v.i)
+
+abbrev pub decreases-loop-i : goal.decreases-loop-i
+decreases-loop-i l = l.n - l.i
