@@ -1,5 +1,6 @@
 // Five positions to a byte: one entry packed to a row of bytes, and back, of any width to 32. Inner: not a public call.
 #![tactic(auto)]
+
 pub mod digits; // the two tables
 
 ghost use Rattle.std.specs.Prelude.{◌≡◌, true, ◌+◌, ◌≤◌, length};
