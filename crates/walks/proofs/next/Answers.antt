@@ -90,4 +90,6 @@ loop-a-preserved c =
     )
 
 pub returns : goal.returns
-returns c = let lp = c.loop-a in λ l o r. next_from lp.invariant.0 (next_end (lp.invariant.1.1 (l, o) r) (omega arith))
+returns c =
+    let lp = c.loop-a in
+    λ l o r. next_from lp.invariant.0 (next_end (lp.invariant.1.1 (l, o) r) (omega arith))
