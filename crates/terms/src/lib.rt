@@ -2,6 +2,7 @@
 // Each nested head costs one frame of `read_term` and one of `read_row`, each further argument one of `read_row`: at most 2
 // frames a token. The checks are made of at most 1024 tokens.
 #![tactic(auto)]
+
 ghost use Rattle.std.specs.Prelude.{◌≡◌, true, ℕ, ◌≤◌};
 ghost use Rattle.model.specs.Equations as M;
 ghost use Rattle.terms.specs.Checks.{parsed, parsed_row, all_named, word_of, check_term, check_equation, checked};

@@ -11,7 +11,7 @@ use lib.ListN.{length, get_or, drop, length-append, length-drop}
 use lib.Seq.{drop-drop, drop-append_seam}
 use Rattle.model.specs.Growth.{◌>>=◌}
 use Rattle.model.specs.Terms.{Term, Terms, var, head, nil, cons, arity, variables}
-use Rattle.model.specs.Tokens.{first_head, arities, named, Writable, WritableRow, tokens, tokens_row}
+use Rattle.model.specs.Tokens.{first_head, arities, Writable, WritableRow, tokens, tokens_row}
 use Rattle.model.specs.Equations.{Equation}
 use Rattle.model.specs.Walk.{Walked, both, walk, walk_row}
 use Rattle.model.proofs.Tests.{true_of}
