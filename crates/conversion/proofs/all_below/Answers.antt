@@ -1,11 +1,6 @@
-use mathlib.Core.Path.{◌≡◌, refl}
-use mathlib.Core.Bool.{◌&&◌}
-use Prim.Native.Nat.{◌-◌, ◌≤◌}
+use mathlib.Core.Path.{refl}
 use native.Mathlib.Omega.{arith}
-use lib.ListN.{length, drop}
-use Rattle.conversion.specs.Conversion.{all_below}
 use Rattle.conversion.proofs.Converting.{below_turn, below_end}
-use borrow.Author.Rules.{rules}
 use Rattle.conversion.proofs.all_below.Goals as goal
 
 pub loop-i-init : goal.loop-i-init

@@ -1,12 +1,9 @@
 -- Loop: `good`, and the test of the words from i on, are the test of all (`below_turn`, `below_end`).
-use mathlib.Core.Path.{◌≡◌, refl}
+use mathlib.Core.Path.{◌≡◌}
 use mathlib.Core.Bool.{◌&&◌}
 use Prim.Native.Nat.{◌-◌, ◌≤◌}
-use native.Mathlib.Omega.{arith}
 use lib.ListN.{length, drop}
 use Rattle.conversion.specs.Conversion.{all_below}
-use Rattle.conversion.proofs.Converting.{below_turn, below_end}
-use borrow.Author.Rules.{rules}
 use Rattle.conversion.proofs.all_below.Given as goal
 
 abbrev pub invariant-loop-i : goal.invariant-loop-i

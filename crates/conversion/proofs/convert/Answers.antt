@@ -1,16 +1,11 @@
-use mathlib.Core.Path.{◌≡◌, refl}
-use mathlib.Core.Bool.{true}
-use mathlib.Core.List.{map}
-use Prim.Native.Nat.{◌-◌, ◌≤◌}
+use mathlib.Core.Path.{refl}
 use native.Mathlib.Omega.{arith}
 use borrow.Author.Rules.{rules}
-use lib.ListN.{length, length-map}
-use Rattle.model.specs.Growth.{grow, grow_all, convert}
-use Rattle.words.specs.Words.{set}
-use Rattle.conversion.specs.Conversion.{all_below}
+use lib.ListN.{length-map}
+use Rattle.model.specs.Growth.{grow_all, convert}
 use Rattle.lists.proofs.Holding.{holds_empty, within_count}
-use Rattle.lists.proofs.SoFar.{SoFar, Any, so_far_start, so_far_step, so_far_stop, so_far_end}
-use Rattle.conversion.proofs.Converting.{strings, none, row_length, row_entry}
+use Rattle.lists.proofs.SoFar.{so_far_start, so_far_step, so_far_stop, so_far_end}
+use Rattle.conversion.proofs.Converting.{none, row_length, row_entry}
 use Rattle.conversion.proofs.convert.Goals as goal
 
 pub loop-i-init : goal.loop-i-init
@@ -19,7 +14,7 @@ loop-i-init c =
     (
   omega arith,
   omega arith,
-  λ b. so_far_start (holds_empty _ _ c.whole-2-1.given.0 (omega arith)) refl tt,
+  λ b. so_far_start (holds_empty _ _ (search rules) (omega arith)) refl tt,
 )
 
 pub returns-in-Full : goal.returns-in-Full

@@ -1,17 +1,14 @@
 -- Loop (`SoFar`): the words before i are converted, and to go on with the others from the list gives the whole.
-use mathlib.Core.Path.{◌≡◌, refl}
+use mathlib.Core.Path.{◌≡◌}
 use mathlib.Core.Bool.{true}
 use mathlib.Core.List.{map}
 use Prim.Native.Nat.{◌-◌, ◌≤◌}
-use native.Mathlib.Omega.{arith}
-use borrow.Author.Rules.{rules}
-use lib.ListN.{length, length-map}
-use Rattle.model.specs.Growth.{grow, grow_all, convert}
+use lib.ListN.{length}
+use Rattle.model.specs.Growth.{grow, convert}
 use Rattle.words.specs.Words.{set}
 use Rattle.conversion.specs.Conversion.{all_below}
-use Rattle.lists.proofs.Holding.{holds_empty, within_count}
-use Rattle.lists.proofs.SoFar.{SoFar, Any, so_far_start, so_far_step, so_far_stop, so_far_end}
-use Rattle.conversion.proofs.Converting.{strings, none, row_length, row_entry}
+use Rattle.lists.proofs.SoFar.{SoFar, Any}
+use Rattle.conversion.proofs.Converting.{strings}
 use Rattle.conversion.proofs.convert.Given as goal
 
 abbrev pub invariant-loop-i : goal.invariant-loop-i

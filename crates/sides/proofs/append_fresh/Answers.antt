@@ -1,7 +1,6 @@
 -- The three cases of `fresh`: `fresh_zero`, `fresh_subsumed`, `fresh_new`.
 use mathlib.Core.Path.{sym, ◌∙◌}
 use native.Mathlib.Omega.{arith}
-use borrow.Author.Rules.{rules}
 use Rattle.lists.specs.WorkingLists.{makes}
 use Rattle.sides.proofs.PieceLoop.{fresh_zero, fresh_subsumed, fresh_new}
 use Rattle.sides.proofs.append_fresh.Goals as goal

@@ -24,7 +24,7 @@ loop-i-init c =
   omega arith,
   λ τ h.
       let a = c.args in
-      let none = holds_empty a.l a.list.now c.whole-2-1.given.0 h.short in
+      let none = holds_empty a.l a.list.now (search rules) h.short in
       so_far_start (holds_append none (stars a.l) (stars_length a.l) (sym (stars_word a.l)) (omega arith)) refl
       some_start,
 )

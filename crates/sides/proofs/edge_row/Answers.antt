@@ -1,21 +1,16 @@
 use mathlib.Core.Path.{sym, ◌∙◌}
 use mathlib.Core.List.{[]}
-use mathlib.Core.Logic.{⊎_elim}
-use Prim.Native.Nat.{ℕ, ◌-◌, ◌≤◌}
 use native.Mathlib.Omega.{arith}
 use borrow.Author.Rules.{rules}
-use lib.Dec.{ltb}
 use lib.ListN.{get_or}
-use Rattle.model.specs.Widest.{opposed_count}
-use Rattle.lists.specs.WorkingLists.{OfString}
 use Rattle.lists.proofs.Holding.{holds_length}
-use Rattle.lists.proofs.RowLoops.{Along, row_start, row_add, row_skip, row_past}
+use Rattle.lists.proofs.RowLoops.{row_start, row_add, row_skip, row_past}
 use Rattle.sides.proofs.MatchedEntries.{edges_end}
 use Rattle.sides.proofs.edge_row.Goals as goal
 use Rattle.sides.proofs.edge_row.Goals.{else-opposed_once, then-opposed_once}
 
 pub loop-i-init : goal.loop-i-init
-loop-i-init c = (omega arith, omega arith, λ l τ t h e v. row_start c.whole-2-1.given.0 h.short)
+loop-i-init c = (omega arith, omega arith, λ l τ t h e v. row_start (search rules) h.short)
 
 pub loop-i-preserved : goal.loop-i-preserved
 loop-i-preserved c =

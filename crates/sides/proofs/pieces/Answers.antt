@@ -1,19 +1,13 @@
 use mathlib.Core.Path.{◌≡◌, sym, ◌∙◌}
-use Prim.Native.Nat.{◌-◌, ◌≤◌, ◌<◌, ◌^◌}
+use Prim.Native.Nat.{◌-◌, ◌<◌, ◌^◌}
 use native.Mathlib.Omega.{arith}
-use borrow.Author.Rules.{rules}
 use borrow.Author.Tests.{not-true}
 use lib.Bits.{bit_xor, and_le_l, and_le_r}
-use lib.ListN.{length}
-use Rattle.model.specs.Strings.{Trits}
-use Rattle.model.specs.Growth.{Entries}
 use Rattle.model.proofs.Positions.{opposed_length}
-use Rattle.words.specs.Words.{word}
 use Rattle.words.proofs.Clearing.{trailing_lt}
-use Rattle.lists.specs.WorkingLists.{Holds, stops}
+use Rattle.lists.specs.WorkingLists.{stops}
 use Rattle.lists.proofs.Holding.{within_count}
-use Rattle.sides.specs.Parts.{append_pieces}
-use Rattle.sides.proofs.PieceLoop.{PiecesSoFar, pieces_start, pieces_open, pieces_step, pieces_stop, pieces_end}
+use Rattle.sides.proofs.PieceLoop.{pieces_start, pieces_open, pieces_step, pieces_stop, pieces_end}
 use Rattle.sides.proofs.pieces.Goals as goal
 
 pub loop-left-init : goal.loop-left-init
@@ -29,7 +23,7 @@ loop-left-init c =
 pub opposed-z-requires : goal.opposed-z-requires
 opposed-z-requires c =
     let lp = c.loop-left in
-    trailing_lt 64 32 lp.false lp.invariant.0 (omega arith) (λ z. absurd (omega (arith, z)))
+    trailing_lt 64 32 lp.left lp.invariant.0 (omega arith) (λ z. absurd (omega (arith, z)))
 
 pub returns-in-Full : goal.returns-in-Full
 returns-in-Full c =
@@ -37,8 +31,8 @@ returns-in-Full c =
       within = tt;
       made = λ τ κ s t h g d e y v.
           let w = lp.invariant.2 τ κ s t h g d e y v in
-          let small : lp.false < 2 ^ 64 = omega arith in
-          let some : ¬ (lp.false ≡ 0) = λ z. absurd (omega (arith, z)) in
+          let small : lp.left < 2 ^ 64 = omega arith in
+          let some : ¬ (lp.left ≡ 0) = λ z. absurd (omega (arith, z)) in
           let at = pieces_open w small some in
           let z = c.opposed-z.ensures.strings s t (d ∙ sym e) (omega (arith, d)) y v (not-true _ at.0) at.1 in
           let made = c.append_fresh.ensures.made _ κ _ w.held g (opposed_length _ t s ∙ d) z in
@@ -48,18 +42,18 @@ returns-in-Full c =
 pub loop-left-smaller : goal.loop-left-smaller
 loop-left-smaller c =
     let lp = c.loop-left in
-    omega (arith, and_le_r lp.false (lp.false - 1))
+    omega (arith, and_le_r lp.left (lp.left - 1))
 
 pub loop-left-preserved : goal.loop-left-preserved
 loop-left-preserved c =
     let lp = c.loop-left in
     let got = c.in-Count.is in (
-      omega (arith, and_le_l lp.false (lp.false - 1)),
+      omega (arith, and_le_l lp.left (lp.left - 1)),
       within_count c.append_fresh.ensures.within got,
       λ τ κ s t h g d e y v.
           let w = lp.invariant.2 τ κ s t h g d e y v in
-          let small : lp.false < 2 ^ 64 = omega arith in
-          let some : ¬ (lp.false ≡ 0) = λ z. absurd (omega (arith, z)) in
+          let small : lp.left < 2 ^ 64 = omega arith in
+          let some : ¬ (lp.left ≡ 0) = λ z. absurd (omega (arith, z)) in
           let at = pieces_open w small some in
           let z = c.opposed-z.ensures.strings s t (d ∙ sym e) (omega (arith, d)) y v (not-true _ at.0) at.1 in
           let made = c.append_fresh.ensures.made _ κ _ w.held g (opposed_length _ t s ∙ d) z in

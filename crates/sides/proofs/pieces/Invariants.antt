@@ -1,20 +1,13 @@
 -- Loop (`PiecesSoFar`): to append the pieces at the positions left gives the whole; a turn takes the lowest of them.
-use mathlib.Core.Path.{◌≡◌, sym, ◌∙◌}
-use Prim.Native.Nat.{◌-◌, ◌≤◌, ◌<◌, ◌^◌}
-use native.Mathlib.Omega.{arith}
-use borrow.Author.Rules.{rules}
-use borrow.Author.Tests.{not-true}
-use lib.Bits.{bit_xor, and_le_l, and_le_r}
+use mathlib.Core.Path.{◌≡◌}
+use Prim.Native.Nat.{◌≤◌, ◌<◌, ◌^◌}
 use lib.ListN.{length}
 use Rattle.model.specs.Strings.{Trits}
 use Rattle.model.specs.Growth.{Entries}
-use Rattle.model.proofs.Positions.{opposed_length}
 use Rattle.words.specs.Words.{word}
-use Rattle.words.proofs.Clearing.{trailing_lt}
-use Rattle.lists.specs.WorkingLists.{Holds, stops}
-use Rattle.lists.proofs.Holding.{within_count}
+use Rattle.lists.specs.WorkingLists.{Holds}
 use Rattle.sides.specs.Parts.{append_pieces}
-use Rattle.sides.proofs.PieceLoop.{PiecesSoFar, pieces_start, pieces_open, pieces_step, pieces_stop, pieces_end}
+use Rattle.sides.proofs.PieceLoop.{PiecesSoFar}
 use Rattle.sides.proofs.pieces.Given as goal
 
 abbrev pub invariant-loop-left : goal.invariant-loop-left

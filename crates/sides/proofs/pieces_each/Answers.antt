@@ -1,16 +1,9 @@
-use mathlib.Core.Path.{◌≡◌, refl}
+use mathlib.Core.Path.{refl}
 use mathlib.Core.List.{[]}
-use Prim.Native.Nat.{◌-◌, ◌≤◌}
 use native.Mathlib.Omega.{arith}
-use lib.ListN.{length, get_or}
-use Rattle.model.specs.Strings.{Trits}
-use Rattle.model.specs.Growth.{fold, Entries}
-use Rattle.words.specs.Words.{word}
-use Rattle.lists.specs.WorkingLists.{Holds}
+use lib.ListN.{get_or}
 use Rattle.lists.proofs.Holding.{holds_length, within_count}
-use Rattle.lists.proofs.SoFar.{SoFar, Any, so_far_start, so_far_step, so_far_stop, so_far_end}
-use Rattle.sides.specs.Parts.{append_pieces}
-use borrow.Author.Rules.{rules}
+use Rattle.lists.proofs.SoFar.{so_far_start, so_far_step, so_far_stop, so_far_end}
 use Rattle.sides.proofs.pieces_each.Goals as goal
 
 pub loop-j-init : goal.loop-j-init

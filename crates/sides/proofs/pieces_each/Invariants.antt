@@ -1,17 +1,13 @@
 -- Loop (`SoFar`): the pieces of the strings before j are appended, and to go on with the others gives the whole.
-use mathlib.Core.Path.{◌≡◌, refl}
-use mathlib.Core.List.{[]}
+use mathlib.Core.Path.{◌≡◌}
 use Prim.Native.Nat.{◌-◌, ◌≤◌}
-use native.Mathlib.Omega.{arith}
-use lib.ListN.{length, get_or}
+use lib.ListN.{length}
 use Rattle.model.specs.Strings.{Trits}
 use Rattle.model.specs.Growth.{fold, Entries}
 use Rattle.words.specs.Words.{word}
 use Rattle.lists.specs.WorkingLists.{Holds}
-use Rattle.lists.proofs.Holding.{holds_length, within_count}
-use Rattle.lists.proofs.SoFar.{SoFar, Any, so_far_start, so_far_step, so_far_stop, so_far_end}
+use Rattle.lists.proofs.SoFar.{SoFar, Any}
 use Rattle.sides.specs.Parts.{append_pieces}
-use borrow.Author.Rules.{rules}
 use Rattle.sides.proofs.pieces_each.Given as goal
 
 abbrev pub invariant-loop-j : goal.invariant-loop-j

@@ -1,21 +1,15 @@
 use mathlib.Core.Path.{◌≡◌, sym, ◌∙◌}
-use mathlib.Core.Logic.{⊎_elim}
-use Prim.Native.Nat.{ℕ, ◌-◌, ◌≤◌}
 use native.Mathlib.Omega.{arith}
-use lib.ListN.{length, length-set}
-use Rattle.model.specs.Strings.{Trits}
-use Rattle.model.specs.Growth.{Entries}
-use Rattle.words.specs.Words.{word}
-use Rattle.lists.specs.WorkingLists.{Holds}
+use lib.ListN.{length-set}
 use Rattle.lists.proofs.Holding.{holds_length}
-use Rattle.sides.proofs.MatchedEntries.{MatchedSoFar, matched_start, matched_more, matched_not, matched_taken}
+use Rattle.sides.proofs.MatchedEntries.{matched_start, matched_more, matched_not, matched_taken}
 use Rattle.sides.proofs.MatchedEntries.{matched_left}
 use borrow.Author.Rules.{rules}
 use Rattle.sides.proofs.take.Goals as goal
 use Rattle.sides.proofs.take.Goals.{else-matches, then-matches}
 
 pub loop-i-init : goal.loop-i-init
-loop-i-init c = (omega arith, omega arith, c.whole-2-1.given.0, λ l τ t h e is. matched_start t h c.whole-2-1.given.0)
+loop-i-init c = (omega arith, omega arith, (search rules), λ l τ t h e is. matched_start t h (search rules))
 
 pub loop-i-preserved : goal.loop-i-preserved
 loop-i-preserved c =
@@ -25,7 +19,7 @@ loop-i-preserved c =
         | then-matches g ↦ omega (arith, g.k-is)
         | else-matches g ↦ omega (arith, g.k-is)
         ],
-      length-set w.true w.k _ ∙ w.invariant.2,
+      length-set w.taken w.k _ ∙ w.invariant.2,
       λ l τ t h e is.
           let p = w.invariant.3 l τ t h e is in
           let long = holds_length h w.i (omega arith) in

@@ -1,17 +1,12 @@
 -- Loop (`MatchedSoFar`): of the entries before i those that match v are in `taken`, the others at the front of the list.
-use mathlib.Core.Path.{◌≡◌, sym, ◌∙◌}
-use mathlib.Core.Logic.{⊎_elim}
+use mathlib.Core.Path.{◌≡◌}
 use Prim.Native.Nat.{ℕ, ◌-◌, ◌≤◌}
-use native.Mathlib.Omega.{arith}
-use lib.ListN.{length, length-set}
+use lib.ListN.{length}
 use Rattle.model.specs.Strings.{Trits}
 use Rattle.model.specs.Growth.{Entries}
 use Rattle.words.specs.Words.{word}
 use Rattle.lists.specs.WorkingLists.{Holds}
-use Rattle.lists.proofs.Holding.{holds_length}
-use Rattle.sides.proofs.MatchedEntries.{MatchedSoFar, matched_start, matched_more, matched_not, matched_taken}
-use Rattle.sides.proofs.MatchedEntries.{matched_left}
-use borrow.Author.Rules.{rules}
+use Rattle.sides.proofs.MatchedEntries.{MatchedSoFar}
 use Rattle.sides.proofs.take.Given as goal
 
 abbrev pub invariant-loop-i : goal.invariant-loop-i

@@ -1,11 +1,8 @@
 use mathlib.Core.Path.{sym, ◌∙◌}
-use Prim.Native.Nat.{ℕ, ◌<◌, ◌≤◌, ◌-◌}
+use Prim.Native.Nat.{◌<◌}
 use native.Mathlib.Omega.{arith}
 use borrow.Author.Rules.{rules}
-use Rattle.model.specs.Growth.{covered}
-use Rattle.lists.specs.WorkingLists.{OfString}
 use Rattle.lists.proofs.Holding.{holds_length}
-use Rattle.covering.specs.Covering.{Narrows}
 use Rattle.covering.proofs.Narrowing.{narrows_same, narrows_more}
 use Rattle.covering.proofs.cover.narrowed.Goals as goal
 

@@ -1,13 +1,8 @@
 -- Loop: x covers all that y covers and no entry does (`narrows_more`), and is no less.
-use mathlib.Core.Path.{sym, ◌∙◌}
-use Prim.Native.Nat.{ℕ, ◌<◌, ◌≤◌, ◌-◌}
-use native.Mathlib.Omega.{arith}
-use borrow.Author.Rules.{rules}
+use Prim.Native.Nat.{ℕ, ◌≤◌, ◌-◌}
 use Rattle.model.specs.Growth.{covered}
 use Rattle.lists.specs.WorkingLists.{OfString}
-use Rattle.lists.proofs.Holding.{holds_length}
 use Rattle.covering.specs.Covering.{Narrows}
-use Rattle.covering.proofs.Narrowing.{narrows_same, narrows_more}
 use Rattle.covering.proofs.cover.narrowed.Given as goal
 
 abbrev pub invariant-loop-i : goal.invariant-loop-i

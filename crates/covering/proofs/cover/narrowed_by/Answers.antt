@@ -1,6 +1,5 @@
 -- y stays (`narrows_same`), or v has one position that y lacks, and there all that is left has the opposite (`narrows_one`).
 use native.Mathlib.Omega.{arith}
-use borrow.Author.Rules.{rules}
 use Rattle.covering.proofs.Narrowing.{narrows_same, narrows_one}
 use Rattle.covering.proofs.Splitting.{or_more}
 use Rattle.covering.proofs.cover.narrowed_by.Goals as goal

@@ -2,7 +2,6 @@
 use mathlib.Core.Path.{sym, ◌∙◌}
 use native.Mathlib.Omega.{arith}
 use borrow.Author.Rules.{rules}
-use borrow.Author.Tests.{not-true, not-false}
 use lib.Bits.{bit_and, xor_lt, and_lt}
 use lib.Count.{ones-le}
 use Rattle.covering.proofs.cover.rank.Goals as goal

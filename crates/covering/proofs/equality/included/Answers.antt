@@ -16,6 +16,7 @@ loop-i-init c = (search rules, λ α β ha hb. refl)
 
 pub returns-then-not-covered : goal.returns-then-not-covered
 returns-then-not-covered c =
+    λ α β ha hb.
     let w = c.loop-i in
     let below = c.loop-i-test.true in
     let answer = c.covered.ensures β _ hb (holds_length ha w.i below) (ha.here w.i below) in
@@ -35,6 +36,7 @@ loop-i-preserved c =
 
 pub returns : goal.returns
 returns c =
+    λ α β ha hb.
     let w = c.loop-i in
     let end : w.i ≡ c.args.an = omega arith in
     sym (w.invariant.1 α β ha hb ∙ within_end _ β α _ (end ∙ ha.count))

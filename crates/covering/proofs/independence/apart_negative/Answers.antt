@@ -22,6 +22,7 @@ loop-j-init c = (search rules, λ τ s h e d k n b i z. absurd (omega arith))
 
 pub returns-then-not-covered : goal.returns-then-not-covered
 returns-then-not-covered c =
+    λ τ s h e d k n b.
     let j = c.loop-j.j in
     let z = c.first_at-z.ensures k (omega arith) (omega arith) b in
     let same : length s ≡ length (first_string k j) = e ∙ sym n ∙ sym (first_length k j) in
@@ -61,4 +62,5 @@ loop-j-preserved c =
 
 pub returns : goal.returns
 returns c =
+    λ τ s h e d k n b.
     apart_all _ τ s k n (λ i lt. c.loop-j.invariant.1 τ s h e d k n b i (omega arith))

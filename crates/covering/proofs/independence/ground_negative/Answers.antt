@@ -11,6 +11,7 @@ use Rattle.covering.proofs.independence.ground_negative.Goals as goal
 
 pub returns : goal.returns
 returns c =
+    λ τ h.
     let a = c.args in
     c.covered.ensures τ _ h (one_at_length a.l (a.x - 1))
     (one_shl (a.x - 1) 64 (omega arith) ∙ sym (one_word a.l (a.x - 1) (omega arith)))

@@ -6,11 +6,11 @@ use Rattle.model.specs.Tables.{positive}
 use Rattle.words.proofs.Positions.{one_shl}
 use Rattle.covering.proofs.FirstVariables.{only_length, only_word}
 use Rattle.covering.proofs.MeetingSets.{ground_only}
-use borrow.Author.Rules.{rules}
 use Rattle.covering.proofs.independence.ground_positive.Goals as goal
 
 pub returns : goal.returns
 returns c =
+    λ l τ h n.
     let x = c.args.x in
     let bit = one_shl (x - 1) 32 (omega arith) ∙ only_word l (x - 1) (omega arith) in
     let wide = only_length l (x - 1) in

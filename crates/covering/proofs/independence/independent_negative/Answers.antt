@@ -21,6 +21,7 @@ loop-i-init c = (search rules, λ τ x y h u v p q k z. absurd (omega arith))
 
 pub returns-then-not-apart_negative : goal.returns-then-not-apart_negative
 returns-then-not-apart_negative c =
+    λ τ x y h u v p q.
     let i = c.loop-i.i in
     let z = c.first_at.ensures x (omega arith) (omega arith) p in
     independent_no _ τ x y i (sym (c.in_set.ensures x p) ∙ c.if-in_set.true)
@@ -46,4 +47,5 @@ loop-i-preserved c =
 
 pub returns : goal.returns
 returns c =
+    λ τ x y h u v p q.
     independent_all _ τ x y u (λ k lt. c.loop-i.invariant.1 τ x y h u v p q k (omega arith))

@@ -1,14 +1,10 @@
 use mathlib.Core.Path.{◌≡◌, refl, sym, ap, ◌∙◌}
 use mathlib.Core.Bool.{Bool, not, ◌&&◌}
-use Prim.Native.Nat.{ℕ, ◌≤◌, ◌<◌, ◌+◌, ◌-◌}
+use Prim.Native.Nat.{ℕ, ◌<◌, ◌+◌}
 use native.Mathlib.Omega.{arith}
 use lib.ListN.{length, drop}
-use Rattle.model.specs.Groups.{Bits}
-use Rattle.model.specs.Growth.{Entries}
 use Rattle.model.specs.Tables.{positive}
 use Rattle.model.specs.Questions.{independent}
-use Rattle.words.specs.Words.{set_word}
-use Rattle.lists.specs.WorkingLists.{Holds}
 use Rattle.lists.proofs.Holding.{holds_length}
 use Rattle.covering.proofs.MeetingSets.{positive_next, positive_end}
 use borrow.Author.Rules.{rules}
@@ -19,6 +15,7 @@ loop-i-init c = (search rules, λ l τ x y h u v p q. refl)
 
 pub returns-then-joins : goal.returns-then-joins
 returns-then-joins c =
+    λ l τ x y h u v p q.
     let i = c.loop-i.i in
     let below : i < length τ = omega (arith, h.count) in
     let lt = c.loop-i-test.true in
@@ -45,6 +42,7 @@ loop-i-preserved c =
 
 pub returns : goal.returns
 returns c =
+    λ l τ x y h u v p q.
     let n : c.loop-i.i ≡ length τ = omega (arith, h.count) in
     sym (c.loop-i.invariant.1 l τ x y h u v p q ∙ ap (λ (k : ℕ). independent positive l (drop k τ) x y) n
     ∙ positive_end l x y τ)

@@ -1,8 +1,6 @@
 -- Loop: no entry before i joins the sets, so that the others decide (`positive_next`, `positive_end`).
-use mathlib.Core.Path.{◌≡◌, refl, sym, ap, ◌∙◌}
-use mathlib.Core.Bool.{Bool, not, ◌&&◌}
-use Prim.Native.Nat.{ℕ, ◌≤◌, ◌<◌, ◌+◌, ◌-◌}
-use native.Mathlib.Omega.{arith}
+use mathlib.Core.Path.{◌≡◌}
+use Prim.Native.Nat.{ℕ, ◌≤◌, ◌-◌}
 use lib.ListN.{length, drop}
 use Rattle.model.specs.Groups.{Bits}
 use Rattle.model.specs.Growth.{Entries}
@@ -10,9 +8,6 @@ use Rattle.model.specs.Tables.{positive}
 use Rattle.model.specs.Questions.{independent}
 use Rattle.words.specs.Words.{set_word}
 use Rattle.lists.specs.WorkingLists.{Holds}
-use Rattle.lists.proofs.Holding.{holds_length}
-use Rattle.covering.proofs.MeetingSets.{positive_next, positive_end}
-use borrow.Author.Rules.{rules}
 use Rattle.covering.proofs.independence.independent_positive.Given as goal
 
 abbrev pub invariant-loop-i : goal.invariant-loop-i

@@ -1,0 +1,46 @@
+-- To close with c is to grow by the row of its ors and then by a row of c alone (`close_on`, `close_full`).
+use mathlib.Core.Path.{sym, ◌∙◌}
+use mathlib.Core.Option.{none-ne-some}
+use native.Mathlib.Omega.{arith}
+use borrow.Author.Rules.{rules}
+use Rattle.lists.specs.WorkingLists.{stops}
+use Rattle.lists.proofs.Holding.{makes_count, makes_full, within_count}
+use Rattle.candidates.proofs.RowEnds.{holds_one}
+use Rattle.candidates.proofs.ProceduresAsFolds.{close_on, close_full}
+use Rattle.candidates.proofs.closing.close_unseen.Goals as goal
+
+pub grow_unseen-requires-in-Count : goal.grow_unseen-requires-in-Count
+grow_unseen-requires-in-Count c =
+    (within_count c.grow_unseen.ensures.within c.in-Count.is, omega (arith, c.requires.1), omega arith)
+
+pub returns-in-Count : goal.returns-in-Count
+returns-in-Count c =
+    let words = c.pair_row-k.new.1.1.1.1.0 in
+    let first = c.grow_unseen.ensures in
+    let second = c.grow_unseen-in-Count.ensures in record {
+      within = second.within;
+      made = λ τ s h e is f.
+            let row = c.pair_row-k.ensures.made _ τ s h e is in
+            let t = makes_count (first.made τ _ h row f) c.in-Count.is in
+            rw (close_on τ s t.0 t.1)
+            (second.made t.0 _ t.2 (holds_one words row.room h.short s e is)
+            (first.filter τ _ t.0 h row f t.1));
+      filter = λ τ s h e is κ f q.
+            let row = c.pair_row-k.ensures.made _ τ s h e is in
+            let t = makes_count (first.made τ _ h row f) c.in-Count.is in
+            second.filter t.0 _ κ t.2 (holds_one words row.room h.short s e is)
+            (first.filter τ _ t.0 h row f t.1) (sym (close_on τ s t.0 t.1) ∙ q);
+    }
+
+pub returns-in-Full : goal.returns-in-Full
+returns-in-Full c =
+    let first = c.grow_unseen.ensures.made in
+    let is_full = c.in-Full.is in record {
+      within = tt;
+      made = λ τ s h e is f.
+            let made = first τ _ h (c.pair_row-k.ensures.made _ τ s h e is) f in
+            rw (close_full τ s (makes_full made is_full)) stops;
+      filter = λ τ s h e is κ f q.
+            let made = first τ _ h (c.pair_row-k.ensures.made _ τ s h e is) f in
+            absurd (none-ne-some κ (sym (close_full τ s (makes_full made is_full)) ∙ q));
+    }
