@@ -1,5 +1,6 @@
 // Converting a row of groups to a working list (01, "Convert groups"). Inner: not a public call.
 #![tactic(auto)]
+
 ghost use Rattle.std.specs.Prelude.{◌≡◌, true, map, ◌≤◌};
 ghost use Rattle.model.specs.Growth.{convert as convert-list};
 ghost use Rattle.words.specs.Words.{set};

@@ -1,6 +1,7 @@
 // Change of side (01; in the field: the complement of a cover) on working lists. Inner: not a public call.
 // Where a result is full, nothing is said of the array lent for it. Arrays lent as room may hold anything before and after.
 #![tactic(auto)]
+
 ghost use Rattle.std.specs.Prelude.{◌≡◌, [], ◌∷◌, ℕ, ◌-◌, ◌≤◌, length};
 ghost use Rattle.model.specs.Strings.{Trits};
 ghost use Rattle.model.specs.Growth.{fold, Entries};

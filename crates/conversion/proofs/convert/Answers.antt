@@ -10,8 +10,7 @@ use Rattle.conversion.proofs.convert.Goals as goal
 
 pub loop-i-init : goal.loop-i-init
 unfolding convert grow_all
-loop-i-init c =
-    (
+loop-i-init c = (
   omega arith,
   omega arith,
   λ b. so_far_start (holds_empty _ _ (search rules) (omega arith)) refl tt,
@@ -22,12 +21,12 @@ returns-in-Full c =
     record {
       within = tt;
       made = λ b.
-      let ws = c.args.words.now in
-      let i = c.loop-i.i in
-      let w = c.loop-i.invariant.2 b in
-      let y = c.word_of-y.ensures.strings _ (row_entry _ _ ws i b (omega arith) c.full-full.ensures) in
-      let made = c.grow.ensures.made _ _ w.held (row_length _ ws i) y in
-      so_far_stop w (none _) (rw (length-map, length-map) (omega arith)) made c.in-Full.is;
+          let ws = c.args.words.now in
+          let i = c.loop-i.i in
+          let w = c.loop-i.invariant.2 b in
+          let y = c.word_of-y.ensures.strings _ (row_entry _ _ ws i b (omega arith) c.full-full.ensures) in
+          let made = c.grow.ensures.made _ _ w.held (row_length _ ws i) y in
+          so_far_stop w (none _) (rw (length-map, length-map) (omega arith)) made c.in-Full.is;
     }
 
 pub loop-i-preserved : goal.loop-i-preserved

@@ -17,8 +17,8 @@ returns-then-subsumed c =
     record {
       within = omega arith;
       made = λ τ κ s h k e z.
-      let zero = sym (c.is_zero.ensures.strings s e z) ∙ c.if-is_zero.false in
-      rw (fresh_subsumed κ τ s zero (sym (c.subsumed.ensures.strings _ κ s k e z) ∙ c.if-subsumed.true)) (makes h);
+          let zero = sym (c.is_zero.ensures.strings s e z) ∙ c.if-is_zero.false in
+          rw (fresh_subsumed κ τ s zero (sym (c.subsumed.ensures.strings _ κ s k e z) ∙ c.if-subsumed.true)) (makes h);
     }
 
 pub returns : goal.returns
@@ -26,7 +26,7 @@ returns c =
     record {
       within = c.append.ensures.within;
       made = λ τ κ s h k e z.
-      let zero = sym (c.is_zero.ensures.strings s e z) ∙ c.if-is_zero.false in
-      let new = sym (c.subsumed.ensures.strings _ κ s k e z) ∙ c.if-subsumed.false in
-      rw (fresh_new κ τ s zero new) (c.append.ensures.made _ τ s h e z);
+          let zero = sym (c.is_zero.ensures.strings s e z) ∙ c.if-is_zero.false in
+          let new = sym (c.subsumed.ensures.strings _ κ s k e z) ∙ c.if-subsumed.false in
+          rw (fresh_new κ τ s zero new) (c.append.ensures.made _ τ s h e z);
     }

@@ -1,25 +1,20 @@
 use mathlib.Core.Path.{refl, sym}
 use mathlib.Core.List.{[]}
-use Prim.Native.Nat.{◌-◌, ◌≤◌}
 use native.Mathlib.Omega.{arith}
 use lib.ListN.{get_or}
-use Rattle.model.specs.Growth.{Entries}
 use Rattle.model.specs.Strings.{stars}
-use Rattle.model.specs.Tables.{take_away, change_side}
+use Rattle.model.specs.Tables.{change_side}
 use Rattle.model.proofs.Positions.{stars_length}
-use Rattle.lists.specs.WorkingLists.{Holds}
 use Rattle.lists.proofs.Holding.{holds_append, holds_empty, holds_length, within_count}
-use Rattle.lists.proofs.SoFar.{SoFar, so_far_start, so_far_step, so_far_stop, so_far_end}
+use Rattle.lists.proofs.SoFar.{so_far_start, so_far_step, so_far_stop, so_far_end}
 use Rattle.words.proofs.Words.{stars_word}
-use Rattle.sides.proofs.MatchedEntries.{SomeComplement, some_start, some_next}
+use Rattle.sides.proofs.MatchedEntries.{some_start, some_next}
 use borrow.Author.Rules.{rules}
 use Rattle.sides.proofs.change_side.Goals as goal
-use Rattle.sides.proofs.change_side.Goals.{After-take_away-arg-1}
 
 pub loop-i-init : goal.loop-i-init
 unfolding change_side
-loop-i-init c =
-    (
+loop-i-init c = (
   omega arith,
   omega arith,
   λ τ h.
@@ -34,18 +29,16 @@ returns-in-Full c =
     record {
       within = tt;
       made = λ τ h.
-      let in-loop = (goal.at.returns-in-Full c).After-take_away-arg-1 in
-      let lp = in-loop.before.loop in
-      let w = lp.invariant.2 τ h in
-      let made = c.take_away.ensures.made _ (get_or τ lp.i []) w.held
-      (holds_length h lp.i (omega arith)) (h.here lp.i (omega arith)) w.known.0 w.known.1 in
-      so_far_stop w [] (omega (arith, h.count)) made c.in-Full.is;
+          let lp = c.loop-i in
+          let w = lp.invariant.2 τ h in
+          let made = c.take_away.ensures.made _ (get_or τ lp.i []) w.held
+          (holds_length h lp.i (omega arith)) (h.here lp.i (omega arith)) w.known.0 w.known.1 in
+          so_far_stop w [] (omega (arith, h.count)) made c.in-Full.is;
     }
 
 pub loop-i-preserved : goal.loop-i-preserved
 loop-i-preserved c =
-    let in-loop = (goal.at.loop-i-preserved c).After-take_away-arg-1 in
-    let lp = in-loop.before.loop in
+    let lp = c.loop-i in
     let got = c.in-Count.is in (
       omega arith,
       within_count c.take_away.ensures.within got,

@@ -19,7 +19,7 @@ loop-i-preserved c =
       elim c.if-opposed_once.branch [
         | then-opposed_once u ↦ omega (arith, u.k-is)
         | else-opposed_once u ↦ omega (arith, u.k-is)
-        ],
+      ],
       λ l τ t h e v.
           let d = holds_length h w.i (omega arith) in
           let is = h.here w.i (omega arith) in
@@ -29,7 +29,7 @@ loop-i-preserved c =
           elim c.if-opposed_once.branch [
             | then-opposed_once u ↦ rw u.k-is (row_add p (omega arith) (m ∙ u.if-opposed_once.true) is d (omega arith))
             | else-opposed_once u ↦ rw u.k-is (row_skip (row_past _ p) (omega arith) (m ∙ u.if-opposed_once.false))
-            ],
+          ],
     )
 
 pub returns : goal.returns

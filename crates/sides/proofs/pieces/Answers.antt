@@ -11,14 +11,13 @@ use Rattle.sides.proofs.PieceLoop.{pieces_start, pieces_open, pieces_step, piece
 use Rattle.sides.proofs.pieces.Goals as goal
 
 pub loop-left-init : goal.loop-left-init
-loop-left-init c =
-    (
-      omega (arith, and_le_l c.fixed.result (bit_xor c.fixed-2.result 4294967295)),
-      omega arith,
-      λ τ κ s t h g d e y v.
-          rw (c.fixed.ensures.strings t (omega (arith, e)) v, c.fixed-2.ensures.strings s (omega (arith, d)) y)
-          (pieces_start κ s t h d e),
-    )
+loop-left-init c = (
+  omega (arith, and_le_l c.fixed.result (bit_xor c.fixed-2.result 4294967295)),
+  omega arith,
+  λ τ κ s t h g d e y v.
+      rw (c.fixed.ensures.strings t (omega (arith, e)) v, c.fixed-2.ensures.strings s (omega (arith, d)) y)
+      (pieces_start κ s t h d e),
+)
 
 pub opposed-z-requires : goal.opposed-z-requires
 opposed-z-requires c =

@@ -14,11 +14,11 @@ returns-in-Full c =
     record {
       within = tt;
       made = λ τ ρ κ t h y g e is.
-      let lp = c.loop-j in
-      let w = lp.invariant.2 τ ρ κ t h y g e is in
-      let made = c.pieces.ensures.made _ κ (get_or ρ lp.j []) t w.held g
-      (holds_length y lp.j (omega arith)) e (y.here lp.j (omega arith)) is in
-      so_far_stop w [] (omega (arith, y.count)) made c.in-Full.is;
+          let lp = c.loop-j in
+          let w = lp.invariant.2 τ ρ κ t h y g e is in
+          let made = c.pieces.ensures.made _ κ (get_or ρ lp.j []) t w.held g
+          (holds_length y lp.j (omega arith)) e (y.here lp.j (omega arith)) is in
+          so_far_stop w [] (omega (arith, y.count)) made c.in-Full.is;
     }
 
 pub loop-j-preserved : goal.loop-j-preserved

@@ -18,7 +18,7 @@ loop-i-preserved c =
       elim c.if-matches.branch [
         | then-matches g ↦ omega (arith, g.k-is)
         | else-matches g ↦ omega (arith, g.k-is)
-        ],
+      ],
       length-set w.taken w.k _ ∙ w.invariant.2,
       λ l τ t h e is.
           let p = w.invariant.3 l τ t h e is in
@@ -28,7 +28,7 @@ loop-i-preserved c =
           elim c.if-matches.branch [
             | then-matches g ↦ rw g.k-is (matched_more p w.invariant.1 (omega arith) (omega arith) long (same ∙ g.if-matches.true))
             | else-matches g ↦ rw g.k-is (matched_not p w.invariant.1 (omega arith) (omega arith) long (same ∙ g.if-matches.false))
-            ],
+          ],
     )
 
 pub returns : goal.returns
@@ -38,6 +38,6 @@ returns c =
       few = omega arith;
       taken = λ l τ t h e is. matched_taken (w.invariant.3 l τ t h e is) w.invariant.1 h (omega arith);
       left = λ l τ t h e is.
-            let all : n ≡ w.i = omega arith in
-            rw all (matched_left (w.invariant.3 l τ t h e is) w.invariant.1 h (omega arith));
+          let all : n ≡ w.i = omega arith in
+          rw all (matched_left (w.invariant.3 l τ t h e is) w.invariant.1 h (omega arith));
     }

@@ -11,11 +11,11 @@ returns-then-m-eq0 c =
     record {
       within = omega arith;
       made = λ τ t h e is σ k.
-      let taken = c.take-m.ensures in
-      let none = c.if-m-eq0.true in
-      let n = c.args.n in
-      let all : n - c.take-m.result ≡ n = omega arith in
-      rw (take_away_none k t (sym (taken.taken _ τ t h e is).count ∙ none)) (makes (rw all at (taken.left _ τ t h e is)));
+          let taken = c.take-m.ensures in
+          let none = c.if-m-eq0.true in
+          let n = c.args.n in
+          let all : n - c.take-m.result ≡ n = omega arith in
+          rw (take_away_none k t (sym (taken.taken _ τ t h e is).count ∙ none)) (makes (rw all at (taken.left _ τ t h e is)));
     }
 
 pub returns : goal.returns

@@ -1,21 +1,16 @@
 use mathlib.Core.Path.{refl, sym}
 use mathlib.Core.List.{[]}
-use Prim.Native.Nat.{◌-◌, ◌≤◌}
 use native.Mathlib.Omega.{arith}
 use borrow.Author.Rules.{rules}
 use lib.ListN.{get_or}
-use Rattle.model.specs.Growth.{Entries}
-use Rattle.model.specs.Tables.{close_with, close}
-use Rattle.lists.specs.WorkingLists.{Holds}
+use Rattle.model.specs.Tables.{close}
 use Rattle.lists.proofs.Holding.{holds_empty, holds_length, within_count}
-use Rattle.lists.proofs.SoFar.{SoFar, Any, so_far_start, so_far_step, so_far_stop, so_far_end}
+use Rattle.lists.proofs.SoFar.{so_far_start, so_far_step, so_far_stop, so_far_end}
 use Rattle.candidates.proofs.closing.close.Goals as goal
-use Rattle.candidates.proofs.closing.close.Goals.{Else-n-ge16}
 
 pub loop-i-init : goal.loop-i-init
 unfolding close
-loop-i-init c =
-    (
+loop-i-init c = (
   omega arith,
   omega arith,
   λ γ h. so_far_start (holds_empty _ _ (search rules) h.short) refl tt,
@@ -32,8 +27,7 @@ returns-then-n-ge16 c =
 
 pub returns-in-Full : goal.returns-in-Full
 returns-in-Full c =
-    let in-loop = (goal.at.returns-in-Full c).Else-n-ge16 in
-    let lp = in-loop.before.loop in record {
+    let lp = c.loop-i in record {
       within = tt;
       made = λ γ h.
           let w = lp.invariant.2 γ h in
@@ -44,8 +38,7 @@ returns-in-Full c =
 
 pub loop-i-preserved : goal.loop-i-preserved
 loop-i-preserved c =
-    let in-loop = (goal.at.loop-i-preserved c).Else-n-ge16 in
-    let lp = in-loop.before.loop in
+    let lp = c.loop-i in
     let is = c.in-Count.is in (
       omega arith,
       within_count c.close_one.ensures.within is,

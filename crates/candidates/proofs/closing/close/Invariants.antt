@@ -1,15 +1,9 @@
 -- Loop (`SoFar`): the list is closed with each c before i; with the others, here or in `close_rest`, it becomes the whole.
-use mathlib.Core.Path.{refl, sym}
-use mathlib.Core.List.{[]}
 use Prim.Native.Nat.{◌-◌, ◌≤◌}
-use native.Mathlib.Omega.{arith}
-use borrow.Author.Rules.{rules}
-use lib.ListN.{get_or}
 use Rattle.model.specs.Growth.{Entries}
 use Rattle.model.specs.Tables.{close_with, close}
 use Rattle.lists.specs.WorkingLists.{Holds}
-use Rattle.lists.proofs.Holding.{holds_empty, holds_length, within_count}
-use Rattle.lists.proofs.SoFar.{SoFar, Any, so_far_start, so_far_step, so_far_stop, so_far_end}
+use Rattle.lists.proofs.SoFar.{SoFar, Any}
 use Rattle.candidates.proofs.closing.close.Given as goal
 
 abbrev pub invariant-loop-i : goal.invariant-loop-i

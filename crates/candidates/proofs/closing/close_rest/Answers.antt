@@ -1,22 +1,14 @@
 use mathlib.Core.Path.{refl}
 use mathlib.Core.List.{[]}
-use Prim.Native.Nat.{◌-◌, ◌≤◌}
 use native.Mathlib.Omega.{arith}
-use borrow.Author.Rules.{rules}
-use lib.ListN.{get_or, drop}
-use Rattle.model.specs.Growth.{Entries, fold}
-use Rattle.model.specs.Tables.{close_with}
-use Rattle.lists.specs.WorkingLists.{Holds}
-use Rattle.lists.specs.Filters.{Filters}
+use lib.ListN.{get_or}
 use Rattle.lists.proofs.Holding.{holds_length, within_count}
-use Rattle.lists.proofs.SoFar.{SoFar, so_far_start, so_far_step, so_far_stop, so_far_end}
+use Rattle.lists.proofs.SoFar.{so_far_start, so_far_step, so_far_stop, so_far_end}
 use Rattle.lists.proofs.Absorption.{filter_start}
 use Rattle.candidates.proofs.closing.close_rest.Goals as goal
-use Rattle.candidates.proofs.closing.close_rest.Goals.{After-close_unseen-arg-1}
 
 pub loop-i-init : goal.loop-i-init
-loop-i-init c =
-    (
+loop-i-init c = (
   omega arith,
   omega arith,
   λ γ τ h k. so_far_start k refl (filter_start _ h.short c.zero-seen.ensures.words),
@@ -24,8 +16,7 @@ loop-i-init c =
 
 pub returns-in-Full : goal.returns-in-Full
 returns-in-Full c =
-    let in-loop = (goal.at.returns-in-Full c).After-close_unseen-arg-1 in
-    let lp = in-loop.before.loop in record {
+    let lp = c.loop-i in record {
       within = tt;
       made = λ γ τ h k.
           let w = lp.invariant.2 γ τ h k in
@@ -36,8 +27,7 @@ returns-in-Full c =
 
 pub loop-i-preserved : goal.loop-i-preserved
 loop-i-preserved c =
-    let in-loop = (goal.at.loop-i-preserved c).After-close_unseen-arg-1 in
-    let lp = in-loop.before.loop in
+    let lp = c.loop-i in
     let is = c.in-Count.is in (
       omega arith,
       within_count c.close_unseen.ensures.within is,

@@ -1,17 +1,11 @@
 -- Loop (`SoFar`): the list is closed with each c before i, and absorbs all that the filter holds.
-use mathlib.Core.Path.{refl}
-use mathlib.Core.List.{[]}
 use Prim.Native.Nat.{◌-◌, ◌≤◌}
-use native.Mathlib.Omega.{arith}
-use borrow.Author.Rules.{rules}
-use lib.ListN.{get_or, drop}
+use lib.ListN.{drop}
 use Rattle.model.specs.Growth.{Entries, fold}
 use Rattle.model.specs.Tables.{close_with}
 use Rattle.lists.specs.WorkingLists.{Holds}
 use Rattle.lists.specs.Filters.{Filters}
-use Rattle.lists.proofs.Holding.{holds_length, within_count}
-use Rattle.lists.proofs.SoFar.{SoFar, so_far_start, so_far_step, so_far_stop, so_far_end}
-use Rattle.lists.proofs.Absorption.{filter_start}
+use Rattle.lists.proofs.SoFar.{SoFar}
 use Rattle.candidates.proofs.closing.close_rest.Given as goal
 
 abbrev pub invariant-loop-i : goal.invariant-loop-i

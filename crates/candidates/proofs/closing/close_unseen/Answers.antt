@@ -2,7 +2,6 @@
 use mathlib.Core.Path.{sym, ◌∙◌}
 use mathlib.Core.Option.{none-ne-some}
 use native.Mathlib.Omega.{arith}
-use borrow.Author.Rules.{rules}
 use Rattle.lists.specs.WorkingLists.{stops}
 use Rattle.lists.proofs.Holding.{makes_count, makes_full, within_count}
 use Rattle.candidates.proofs.RowEnds.{holds_one}
@@ -15,21 +14,21 @@ grow_unseen-requires-in-Count c =
 
 pub returns-in-Count : goal.returns-in-Count
 returns-in-Count c =
-    let words = c.pair_row-k.new.1.1.1.1.0 in
+    let words = c.pair_row-k.new.row in
     let first = c.grow_unseen.ensures in
     let second = c.grow_unseen-in-Count.ensures in record {
       within = second.within;
       made = λ τ s h e is f.
-            let row = c.pair_row-k.ensures.made _ τ s h e is in
-            let t = makes_count (first.made τ _ h row f) c.in-Count.is in
-            rw (close_on τ s t.0 t.1)
-            (second.made t.0 _ t.2 (holds_one words row.room h.short s e is)
-            (first.filter τ _ t.0 h row f t.1));
+          let row = c.pair_row-k.ensures.made _ τ s h e is in
+          let t = makes_count (first.made τ _ h row f) c.in-Count.is in
+          rw (close_on τ s t.0 t.1)
+          (second.made t.0 _ t.2 (holds_one words row.room h.short s e is)
+          (first.filter τ _ t.0 h row f t.1));
       filter = λ τ s h e is κ f q.
-            let row = c.pair_row-k.ensures.made _ τ s h e is in
-            let t = makes_count (first.made τ _ h row f) c.in-Count.is in
-            second.filter t.0 _ κ t.2 (holds_one words row.room h.short s e is)
-            (first.filter τ _ t.0 h row f t.1) (sym (close_on τ s t.0 t.1) ∙ q);
+          let row = c.pair_row-k.ensures.made _ τ s h e is in
+          let t = makes_count (first.made τ _ h row f) c.in-Count.is in
+          second.filter t.0 _ κ t.2 (holds_one words row.room h.short s e is)
+          (first.filter τ _ t.0 h row f t.1) (sym (close_on τ s t.0 t.1) ∙ q);
     }
 
 pub returns-in-Full : goal.returns-in-Full
@@ -38,9 +37,9 @@ returns-in-Full c =
     let is_full = c.in-Full.is in record {
       within = tt;
       made = λ τ s h e is f.
-            let made = first τ _ h (c.pair_row-k.ensures.made _ τ s h e is) f in
-            rw (close_full τ s (makes_full made is_full)) stops;
+          let made = first τ _ h (c.pair_row-k.ensures.made _ τ s h e is) f in
+          rw (close_full τ s (makes_full made is_full)) stops;
       filter = λ τ s h e is κ f q.
-            let made = first τ _ h (c.pair_row-k.ensures.made _ τ s h e is) f in
-            absurd (none-ne-some κ (sym (close_full τ s (makes_full made is_full)) ∙ q));
+          let made = first τ _ h (c.pair_row-k.ensures.made _ τ s h e is) f in
+          absurd (none-ne-some κ (sym (close_full τ s (makes_full made is_full)) ∙ q));
     }

@@ -8,8 +8,7 @@ use Rattle.candidates.proofs.ProceduresAsFolds.{pairs_fold}
 use Rattle.candidates.proofs.pairs.pairs_plain.Goals as goal
 
 pub loop-i-init : goal.loop-i-init
-loop-i-init c =
-    (
+loop-i-init c = (
   omega arith,
   omega arith,
   λ α β h k. so_far_start (holds_empty _ _ (search rules) h.short) (pairs_fold _ β [] α) tt,

@@ -9,8 +9,7 @@ use Rattle.candidates.proofs.ProceduresAsFolds.{pairs_fold}
 use Rattle.candidates.proofs.pairs.pairs_unseen.Goals as goal
 
 pub loop-i-init : goal.loop-i-init
-loop-i-init c =
-    (
+loop-i-init c = (
   omega arith,
   omega arith,
   λ α β h k.

@@ -14,8 +14,7 @@ use Rattle.candidates.proofs.pairs.relevant.Goals as goal
 
 pub loop-i-init : goal.loop-i-init
 unfolding relevant pairs_of
-loop-i-init c =
-    (
+loop-i-init c = (
   omega arith,
   omega arith,
   λ τ g h e is. so_far_start (holds_empty _ _ (search rules) h.short) (pairs_fold Meet (ones g) [] τ) tt,

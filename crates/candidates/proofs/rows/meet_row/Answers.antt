@@ -21,7 +21,7 @@ loop-i-preserved c =
       elim c.if-matches.branch [
         | then-matches v ↦ omega arith
         | else-matches v ↦ omega arith
-        ],
+      ],
       λ l τ s h e a.
           let r = get_or τ w.i [] in
           let d = holds_length h w.i (omega arith) in
@@ -31,10 +31,10 @@ loop-i-preserved c =
           let p = w.invariant.2 l τ s h e a in
           elim c.if-matches.branch [
             | then-matches v ↦ rw v.k-is
-          (row_add p (omega arith) (t ∙ v.if-matches.true)
-          (c.meet.ensures.strings s r (e ∙ sym d) short a is (t ∙ v.if-matches.true)) (meet_length l s r e d) (omega arith))
+                (row_add p (omega arith) (t ∙ v.if-matches.true)
+                (c.meet.ensures.strings s r (e ∙ sym d) short a is (t ∙ v.if-matches.true)) (meet_length l s r e d) (omega arith))
             | else-matches v ↦ rw v.k-is (row_skip (row_past c.meet.result p) (omega arith) (t ∙ v.if-matches.false))
-            ],
+          ],
     )
 
 pub returns : goal.returns

@@ -21,16 +21,16 @@ loop-i-preserved c =
       elim c.if-m-i-eq1.branch [
         | then-m-i-eq1 v ↦ omega arith
         | else-m-i-eq1 v ↦ omega arith
-        ],
+      ],
       λ g e m.
           let t = rw (← m) at (sym (set_bit g w.i)) in
           let p = w.invariant.2 g e m in
           elim c.if-m-i-eq1.branch [
             | then-m-i-eq1 v ↦ rw (v.row-is, v.k-is, one_shl w.i 64 (omega arith))
-          (row_add p (omega arith) (t ∙ eq-eqb _ 1 v.if-m-i-eq1.true) (sym (one_word _ w.i (omega arith)))
-          (one_at_length _ w.i) (omega arith))
+                (row_add p (omega arith) (t ∙ eq-eqb _ 1 v.if-m-i-eq1.true) (sym (one_word _ w.i (omega arith)))
+                (one_at_length _ w.i) (omega arith))
             | else-m-i-eq1 v ↦ rw (v.row-is, v.k-is) (row_skip p (omega arith) (t ∙ ne_eqb _ 1 v.if-m-i-eq1.false))
-            ],
+          ],
     )
 
 pub returns : goal.returns

@@ -15,13 +15,13 @@ returns-in-Absorbed c =
     let s-ensures = c.survey.ensures in record {
       within = c.requires.0;
       made = λ τ s h e y nonzero.
-            let g = subst (Surveyed τ s) c.in-Absorbed.is (s-ensures _ τ s h e y) in
-            absorbed_makes τ s (rw (guarded_idle τ s nonzero g) tt) h;
+          let g = subst (Surveyed τ s) c.in-Absorbed.is (s-ensures _ τ s h e y) in
+          absorbed_makes τ s (rw (guarded_idle τ s nonzero g) tt) h;
       filter = λ τ s h e y κ nonzero f k.
-            let g = subst (Surveyed τ s) c.in-Absorbed.is (s-ensures _ τ s h e y) in
-            absorbed_filter τ s (rw (guarded_idle τ s nonzero g) tt) k
-            (c.note.ensures _ τ s s h.short f e y (c.fixed.ensures.strings s (rw e h.short) y) (subsumes_same s)
-            (inr (inr (refl, g))));
+          let g = subst (Surveyed τ s) c.in-Absorbed.is (s-ensures _ τ s h e y) in
+          absorbed_filter τ s (rw (guarded_idle τ s nonzero g) tt) k
+          (c.note.ensures _ τ s s h.short f e y (c.fixed.ensures.strings s (rw e h.short) y) (subsumes_same s)
+          (inr (inr (refl, g))));
     }
 
 pub returns-in-Stays : goal.returns-in-Stays
@@ -29,14 +29,14 @@ returns-in-Stays c =
     let s-ensures = c.survey.ensures in record {
       within = c.insert.ensures.within;
       made = λ τ s h e y nonzero.
-            let u = subst (Surveyed τ s) c.in-Stays.is (s-ensures _ τ s h e y) in
-            rw (grow_new τ s (untouched_new τ s nonzero u), untouched_stays τ s u)
-            (c.insert.ensures.made τ s h e y u.0);
+          let u = subst (Surveyed τ s) c.in-Stays.is (s-ensures _ τ s h e y) in
+          rw (grow_new τ s (untouched_new τ s nonzero u), untouched_stays τ s u)
+          (c.insert.ensures.made τ s h e y u.0);
       filter = λ τ s h e y κ nonzero f k.
-            let u = subst (Surveyed τ s) c.in-Stays.is (s-ensures _ τ s h e y) in
-            let stays = untouched_stays τ s u in
-            grown_filter τ s (untouched_new τ s nonzero u) k
-            (rw stays
-            (c.note-in-Stays.ensures _ _ s s h.short (c.next_version.ensures τ s f) e y
-            (c.fixed-in-Stays.ensures.strings s (rw e h.short) y) (subsumes_same s) (inr (inl (own_grown τ s s stays)))));
+          let u = subst (Surveyed τ s) c.in-Stays.is (s-ensures _ τ s h e y) in
+          let stays = untouched_stays τ s u in
+          grown_filter τ s (untouched_new τ s nonzero u) k
+          (rw stays
+          (c.note-in-Stays.ensures _ _ s s h.short (c.next_version.ensures τ s f) e y
+          (c.fixed-in-Stays.ensures.strings s (rw e h.short) y) (subsumes_same s) (inr (inl (own_grown τ s s stays)))));
     }

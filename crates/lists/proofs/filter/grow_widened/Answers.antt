@@ -36,14 +36,14 @@ returns-then-covered c =
     record {
       within = c.requires.0;
       made = λ τ s h e y nonzero.
-            let w = widened (goal.at.returns-then-covered c).After-covered τ s h e y nonzero in
-            absorbed_makes τ s (rw (sym w.2 ∙ c.if-covered.true) tt)
-            (c.prepare-k.ensures.made _ τ s h e y).held;
+          let w = widened (goal.at.returns-then-covered c).After-covered τ s h e y nonzero in
+          absorbed_makes τ s (rw (sym w.2 ∙ c.if-covered.true) tt)
+          (c.prepare-k.ensures.made _ τ s h e y).held;
       filter = λ τ s h e y κ nonzero f g.
-            let w = widened (goal.at.returns-then-covered c).After-covered τ s h e y nonzero in
-            let absorbs : T (absorbed τ s) = rw (sym w.2 ∙ c.if-covered.true) tt in
-            absorbed_filter τ s absorbs g
-            (c.note.ensures _ τ s (widen τ s) h.short f e y w.1 (widen_up τ s) (absorbed_idle τ s absorbs));
+          let w = widened (goal.at.returns-then-covered c).After-covered τ s h e y nonzero in
+          let absorbs : T (absorbed τ s) = rw (sym w.2 ∙ c.if-covered.true) tt in
+          absorbed_filter τ s absorbs g
+          (c.note.ensures _ τ s (widen τ s) h.short f e y w.1 (widen_up τ s) (absorbed_idle τ s absorbs));
     }
 
 pub returns : goal.returns
@@ -51,15 +51,15 @@ returns c =
     record {
       within = c.insert.ensures.within;
       made = λ τ s h e y nonzero.
-            let w = widened (goal.at.returns c).After-covered τ s h e y nonzero in
-            let changes = sym w.2 ∙ c.if-covered.false in
-            rw (grow_new τ s changes)
-            (c.insert.ensures.made τ (widen τ s) (c.prepare-k.ensures.made _ τ s h e y).held
-            (widen_length τ s ∙ e) w.0 (new_unsubsumed τ s changes));
+          let w = widened (goal.at.returns c).After-covered τ s h e y nonzero in
+          let changes = sym w.2 ∙ c.if-covered.false in
+          rw (grow_new τ s changes)
+          (c.insert.ensures.made τ (widen τ s) (c.prepare-k.ensures.made _ τ s h e y).held
+          (widen_length τ s ∙ e) w.0 (new_unsubsumed τ s changes));
       filter = λ τ s h e y κ nonzero f g.
-            let w = widened (goal.at.returns c).After-covered τ s h e y nonzero in
-            let changes = sym w.2 ∙ c.if-covered.false in
-            grown_filter τ s changes g
-            (c.note-2.ensures _ _ s (widen τ s) h.short (c.next_version.ensures τ (widen τ s) f) e y
-            w.1 (widen_up τ s) (inr (inl (own_grown τ s (widen τ s) refl))));
+          let w = widened (goal.at.returns c).After-covered τ s h e y nonzero in
+          let changes = sym w.2 ∙ c.if-covered.false in
+          grown_filter τ s changes g
+          (c.note-2.ensures _ _ s (widen τ s) h.short (c.next_version.ensures τ (widen τ s) f) e y
+          w.1 (widen_up τ s) (inr (inl (own_grown τ s (widen τ s) refl))));
     }

@@ -16,11 +16,11 @@ returns-in-Full c =
     record {
       within = tt;
       made = λ τ ρ h y.
-      let lp = c.loop-j in
-      let w = lp.invariant.2 τ ρ h y in
-      let made = c.grow.ensures.made _ (get_or ρ lp.j []) w.held (holds_length y lp.j (omega arith))
-      (y.here lp.j (omega arith)) in
-      so_far_stop w [] (omega (arith, y.count)) made c.in-Full.is;
+          let lp = c.loop-j in
+          let w = lp.invariant.2 τ ρ h y in
+          let made = c.grow.ensures.made _ (get_or ρ lp.j []) w.held (holds_length y lp.j (omega arith))
+          (y.here lp.j (omega arith)) in
+          so_far_stop w [] (omega (arith, y.count)) made c.in-Full.is;
     }
 
 pub loop-j-preserved : goal.loop-j-preserved

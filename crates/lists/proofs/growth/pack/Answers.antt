@@ -10,8 +10,7 @@ use Rattle.lists.proofs.growth.pack.Goals as goal
 use Rattle.lists.proofs.growth.pack.Goals.{else-not-subsumes, then-not-subsumes}
 
 pub loop-i-init : goal.loop-i-init
-loop-i-init c =
-    (
+loop-i-init c = (
   c.requires.0,
   omega arith,
   λ l τ s h e y f. packed_start h _ c.requires.0 (λ m lt. rw (sym (holds_under h s e y m (omega arith)) ∙ f m lt)),
@@ -24,7 +23,7 @@ loop-i-preserved c =
       elim c.if-not-subsumes.branch [
         | then-not-subsumes v ↦ omega (arith, v.k-is)
         | else-not-subsumes v ↦ omega (arith, v.k-is)
-        ],
+      ],
       λ l τ s h e y f.
           let p = w.invariant.2 l τ s h e y f in
           let d = holds_length h w.i (omega arith) in
@@ -33,7 +32,7 @@ loop-i-preserved c =
           elim c.if-not-subsumes.branch [
             | then-not-subsumes v ↦ rw v.k-is (packed_keep p w.invariant.1 (omega arith) (omega arith) d (ap not (m ∙ v.if-not-subsumes.true)))
             | else-not-subsumes v ↦ rw v.k-is (packed_drop p w.invariant.1 (omega arith) _ (ap not (m ∙ v.if-not-subsumes.false)))
-            ],
+          ],
     )
 
 pub returns : goal.returns

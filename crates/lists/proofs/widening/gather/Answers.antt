@@ -18,7 +18,7 @@ loop-i-preserved c =
       elim c.if-near.branch [
         | then-near v ↦ omega (arith, v.k-is)
         | else-near v ↦ omega (arith, v.k-is)
-        ],
+      ],
       λ l τ s h e y.
           let now = w.invariant.2 l τ s h e y in
           let d = holds_length now.0 w.i (omega arith) in
@@ -27,9 +27,9 @@ loop-i-preserved c =
             holds_past now.0 _ _ (omega arith),
             elim c.if-near.branch [
               | then-near u ↦ rw u.k-is (gather_add now.1 (omega (arith, h.count)) (m ∙ u.if-near.true) is
-                (omega (arith, now.0.room)))
+                  (omega (arith, now.0.room)))
               | else-near u ↦ rw u.k-is (gather_skip now.1 (omega (arith, h.count)) _ (m ∙ u.if-near.false))
-              ],
+            ],
           ),
     )
 

@@ -49,19 +49,18 @@ returns-then-open-skip-eq1 c =
     widened_last w wide _ o _ f c.if-open-skip-eq1.true (lt-ltb 1 _ many) _ (c.starred-z.ensures.strings _ short w.is)
 
 pub loop-i-preserved : goal.loop-i-preserved
-loop-i-preserved c =
-    (
-      omega arith,
-      λ τ s ready y.
-          let w = c.loop-i.invariant.1 τ s ready y in
-          let wide = ready.held.good.wide in
-          let short : length w.now ≤ 32 = omega (arith, w.long, ready.held.short) in
-          let o = of_ready ready y w (c.open_set.ensures _ τ s _ ready) in
-          let f = first_open w wide _ o 64 (omega arith) c.if-open-eq0.false in
-          let k = c.fixed_count.ensures.strings _ short w.is in
-          let many : 1 < fixed_count w.now = omega arith in
-          widened_next w wide _ f (lt-ltb 1 _ many) _ (c.starred-z.ensures.strings _ short w.is),
-    )
+loop-i-preserved c = (
+  omega arith,
+  λ τ s ready y.
+      let w = c.loop-i.invariant.1 τ s ready y in
+      let wide = ready.held.good.wide in
+      let short : length w.now ≤ 32 = omega (arith, w.long, ready.held.short) in
+      let o = of_ready ready y w (c.open_set.ensures _ τ s _ ready) in
+      let f = first_open w wide _ o 64 (omega arith) c.if-open-eq0.false in
+      let k = c.fixed_count.ensures.strings _ short w.is in
+      let many : 1 < fixed_count w.now = omega arith in
+      widened_next w wide _ f (lt-ltb 1 _ many) _ (c.starred-z.ensures.strings _ short w.is),
+)
 
 pub returns : goal.returns
 returns c =
