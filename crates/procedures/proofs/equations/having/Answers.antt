@@ -1,0 +1,35 @@
+-- Growth by one string and then change of side, full where one of them is (`makes_then`, `stops_then`).
+use mathlib.Core.Path.{◌∙◌}
+use native.Mathlib.Omega.{arith}
+use Rattle.model.specs.Strings.{zeros}
+use Rattle.model.specs.Tables.{change_side}
+use Rattle.model.proofs.Candidates.{zeros_length}
+use Rattle.lists.proofs.Holding.{within_count}
+use Rattle.lists.proofs.BindLaws.{makes_then, stops_then}
+use Rattle.procedures.specs.Parts.{having_set}
+use Rattle.candidates.proofs.Sets.{zeros_shl}
+use Rattle.procedures.proofs.equations.having.Goals as goal
+
+pub change_side-requires : goal.change_side-requires
+change_side-requires c =
+    (within_count c.grow.ensures.within c.in-Count.is, omega arith)
+
+pub returns-in-Count : goal.returns-in-Count
+unfolding having_set
+returns-in-Count c =
+    let small = c.ranges.m.fits in record {
+      within = c.change_side.ensures.within;
+      made = λ τ k h e is.
+          makes_then (c.grow.ensures.made τ (zeros k) h (zeros_length k ∙ e) (zeros_shl k small is)) (change_side _)
+          c.in-Count.is c.change_side.ensures.made;
+    }
+
+pub returns-in-Full : goal.returns-in-Full
+unfolding having_set
+returns-in-Full c =
+    let small = c.ranges.m.fits in record {
+      within = tt;
+      made = λ τ k h e is.
+          stops_then (c.grow.ensures.made τ (zeros k) h (zeros_length k ∙ e) (zeros_shl k small is)) (change_side _)
+          c.in-Full.is;
+    }

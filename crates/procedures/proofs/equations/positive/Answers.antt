@@ -1,0 +1,58 @@
+-- The code makes the closed cross in one call, which comes to the same (`positive_regrouped`); full where one part is.
+use mathlib.Core.Path.{sym}
+use native.Mathlib.Omega.{arith}
+use Rattle.model.specs.Groups.{or}
+use Rattle.model.specs.Growth.{◌>>=◌, grow_all}
+use Rattle.model.proofs.Bits.{or_length}
+use Rattle.words.proofs.Codec.{set_word_or}
+use Rattle.lists.proofs.Holding.{within_count}
+use Rattle.lists.proofs.BindLaws.{makes_then, stops_then}
+use Rattle.procedures.specs.Parts.{positive_closed_cross}
+use Rattle.procedures.proofs.EquationsRegrouped.{positive_regrouped}
+use Rattle.procedures.proofs.equations.positive.Goals as goal
+
+pub grow_each-requires : goal.grow_each-requires
+grow_each-requires c = (
+  within_count c.irrelevant.ensures.within c.in-Count.is,
+  omega arith,
+  within_count c.positive_closed_cross.ensures.within c.in-Count-positive_closed_cross.is,
+)
+
+pub returns-in-Count-positive_closed_cross : goal.returns-in-Count-positive_closed_cross
+returns-in-Count-positive_closed_cross c =
+    record {
+      within = c.grow_each.ensures.within;
+      made = λ τ x t h ex et ix it.
+          rw (positive_regrouped x t τ)
+          (makes_then
+          (c.irrelevant.ensures.made τ (or x t) h (or_length x t _ ex et) (rw (ix, it) (sym (set_word_or x t))))
+          (λ I. positive_closed_cross x t τ >>= grow_all I) c.in-Count.is
+          (λ I p.
+          makes_then (c.positive_closed_cross.ensures.made τ x t h ex et ix it) (grow_all I) c.in-Count-positive_closed_cross.is
+          (λ K q. c.grow_each.ensures.made I K p q)));
+    }
+
+pub returns-in-Full-positive_closed_cross : goal.returns-in-Full-positive_closed_cross
+returns-in-Full-positive_closed_cross c =
+    record {
+      within = tt;
+      made = λ τ x t h ex et ix it.
+          rw (positive_regrouped x t τ)
+          (makes_then
+          (c.irrelevant.ensures.made τ (or x t) h (or_length x t _ ex et) (rw (ix, it) (sym (set_word_or x t))))
+          (λ I. positive_closed_cross x t τ >>= grow_all I) c.in-Count.is
+          (λ I p.
+          stops_then (c.positive_closed_cross.ensures.made τ x t h ex et ix it) (grow_all I)
+          c.in-Full-positive_closed_cross.is));
+    }
+
+pub returns-in-Full : goal.returns-in-Full
+returns-in-Full c =
+    record {
+      within = tt;
+      made = λ τ x t h ex et ix it.
+          rw (positive_regrouped x t τ)
+          (stops_then
+          (c.irrelevant.ensures.made τ (or x t) h (or_length x t _ ex et) (rw (ix, it) (sym (set_word_or x t))))
+          (λ I. positive_closed_cross x t τ >>= grow_all I) c.in-Full.is);
+    }
