@@ -1,0 +1,32 @@
+-- A refusal of the check is returned as it is; else the loaded list is the table's, and one procedure serves both sides.
+use mathlib.Core.Path.{sym, ◌∙◌}
+use Rattle.tables.specs.Values.{GoodTable}
+use Rattle.tables.specs.Refusals.{if_accepted}
+use Rattle.operations.specs.Operations.{change_side_call}
+use Rattle.operations.proofs.Checked.{good_few, good_wide, good_list}
+use Rattle.operations.proofs.change_side.Goals as goal
+use Rattle.operations.proofs.change_side.Goals.{In-Accepted}
+
+-- the table is good
+checked : (c : In-Accepted) → GoodTable c.args.t
+checked c = c.check.ensures.good.0 c.in-Accepted.is
+
+pub load-requires : goal.load-requires
+load-requires c = good_few (checked (goal.at.load-requires c).In-Accepted)
+
+pub change_side-g-requires : goal.change_side-g-requires
+change_side-g-requires c = let g = checked (goal.at.change_side-g-requires c).In-Accepted in (good_few g, good_wide g)
+
+pub made_or_full-requires : goal.made_or_full-requires
+made_or_full-requires c = c.change_side-g.ensures.within
+
+pub returns-in-Refused : goal.returns-in-Refused
+unfolding change_side_call if_accepted
+returns-in-Refused c =
+    rw (c.refused.ensures, sym c.check.ensures.answer ∙ c.in-Refused.is)
+
+pub returns-in-Accepted : goal.returns-in-Accepted
+unfolding change_side_call if_accepted
+returns-in-Accepted c =
+    rw (sym c.check.ensures.answer ∙ c.in-Accepted.is)
+    (c.made_or_full.ensures _ (c.change_side-g.ensures.made _ (good_list (checked (goal.at.returns-in-Accepted c).In-Accepted) c.load.ensures)))

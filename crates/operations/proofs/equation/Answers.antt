@@ -1,0 +1,14 @@
+-- A refusal of the check is returned as it is; a checked table goes to `equation_checked`, which promises the same.
+use mathlib.Core.Path.{sym, ◌∙◌}
+use Rattle.tables.specs.Refusals.{if_accepted}
+use Rattle.operations.specs.Operations.{equation_call}
+use borrow.Author.Rules.{rules}
+use Rattle.operations.proofs.equation.Goals as goal
+
+pub equation_checked-requires : goal.equation_checked-requires
+equation_checked-requires c = c.check.ensures.good.0 c.in-Accepted.is
+
+pub returns-in-Refused : goal.returns-in-Refused
+unfolding equation_call if_accepted
+returns-in-Refused c =
+    rw (c.refused.ensures, sym c.check.ensures.answer ∙ c.in-Refused.is)
