@@ -6,7 +6,9 @@ use Rattle.covering.specs.Covering.{Narrows}
 use Rattle.covering.proofs.cover.narrowed.Given as goal
 
 abbrev pub invariant-loop-i : goal.invariant-loop-i
-invariant-loop-i v = (v.i ≤ v.n) × (v.y ≤ v.x) × ((l : ℕ) → OfString l v.list v.n v.y (λ τ s. Narrows (covered τ) s v.x))
+invariant-loop-i v = (v.i ≤ v.n)
+    × (v.y ≤ v.x)
+    × ((l : ℕ) → OfString l v.list v.n v.y (λ τ s. Narrows (covered τ) s v.x))
 
 abbrev pub decreases-loop-i : goal.decreases-loop-i
 decreases-loop-i l = l.n - l.i

@@ -1,25 +1,18 @@
 use mathlib.Core.Bool.{true, false, false≢true}
 use mathlib.Core.List.{[]}
-use mathlib.Core.Logic.{⊎_elim}
 use mathlib.Core.Path.{◌≡◌, refl, sym, ◌∙◌}
-use Prim.Native.Nat.{ℕ, ◌≤◌, ◌<◌, ◌-◌, ◌+◌}
+use Prim.Native.Nat.{ℕ, ◌≤◌, ◌<◌, ◌+◌}
 use native.Mathlib.Omega.{arith}
 use borrow.Author.Count.{below_more}
 use borrow.Author.Rules.{rules}
 use lib.ListN.{get_or}
 use Rattle.model.specs.Strings.{Trits, matches}
 use Rattle.model.specs.Growth.{Entries}
-use Rattle.lists.specs.WorkingLists.{OfString}
 use Rattle.lists.proofs.Holding.{holds_length}
 use Rattle.covering.proofs.EveryGroup.{untrue}
 use Rattle.covering.proofs.cover.nearest.Goals as goal
+use Rattle.covering.proofs.cover.nearest.Invariants.{Best}
 use Rattle.covering.proofs.cover.nearest.Goals.{else-k-few, then-k-few}
-
--- the best of the first i entries
-record Best (τ : Entries) (s : Trits) (n best few i : ℕ) : Type 0 where
-  found : best < n → matches (get_or τ best []) s ≡ true
-  none : best ≡ n → few ≡ 65
-  no_match : best ≡ n → (k : ℕ) → k < i → matches (get_or τ k []) s ≡ true → ⊥
 
 -- entry i is the new best
 best_next : (τ : Entries) (s : Trits) (n few i k : ℕ) → i < n → k < few → few ≤ 65
@@ -37,8 +30,7 @@ best_stays τ s n best few i k more h m b = record {
 }
 
 pub loop-i-init : goal.loop-i-init
-loop-i-init c =
-    (
+loop-i-init c = (
   search rules,
   search rules,
   search rules,
@@ -56,21 +48,24 @@ loop-i-preserved c =
     let below : w.i < c.args.n = omega arith in (
       omega arith,
       elim c.if-k-few.branch [
-        | then-k-few p ↦ omega (arith, p.few-is)
-        | else-k-few p ↦ omega (arith, p.few-is)
-        ],
+        | then-k-few p ↦ omega (arith, p.best-is)
+        | else-k-few p ↦ omega (arith, p.best-is)
+      ],
       elim c.if-k-few.branch [
         | then-k-few p ↦ omega (arith, p.few-is)
         | else-k-few p ↦ omega (arith, p.few-is)
-        ],
+      ],
       λ l τ s h e is.
           let long = holds_length h w.i below in
           let test = rank.ensures.strings _ s (long ∙ sym e) (rw long h.short) (h.here _ below) is in
           elim c.if-k-few.branch [
-            | then-k-few p ↦ rw (p.1, p.2) (best_next τ s _ w.few _ _ below p.if-k-few.true w.invariant.2 test.0)
-            | else-k-few p ↦ rw (p.1, p.2)
-          (best_stays τ s _ _ _ _ rank.result p.if-k-few.false rank.ensures.bound test.1 (w.invariant.3 l τ s h e is))
-            ],
+            | then-k-few p ↦
+                rw (p.best-is, p.few-is) (best_next τ s _ w.few _ _ below p.if-k-few.true w.invariant.2 test.0)
+            | else-k-few p ↦
+                let so_far = w.invariant.3 l τ s h e is in
+                rw (p.best-is, p.few-is)
+                (best_stays τ s _ _ _ _ rank.result p.if-k-few.false rank.ensures.bound test.1 so_far)
+          ],
     )
 
 pub returns : goal.returns
@@ -78,10 +73,10 @@ returns c =
     record {
       bound = c.loop-i.invariant.1;
       strings = λ l τ s h e is.
-      let b = c.loop-i.invariant.3 l τ s h e is in
-      record {
-        found = λ k. b.found (omega (arith, h.count));
-        no_match = λ k i m.
-            untrue _ (b.no_match (omega (arith, h.count, c.loop-i.invariant.1)) i (omega (arith, h.count)));
-      };
+          let b = c.loop-i.invariant.3 l τ s h e is in
+          record {
+            found = λ k. b.found (omega (arith, h.count));
+            no_match = λ k i m.
+                untrue _ (b.no_match (omega (arith, h.count, c.loop-i.invariant.1)) i (omega (arith, h.count)));
+          };
     }

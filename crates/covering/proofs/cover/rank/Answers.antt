@@ -11,9 +11,9 @@ returns-then-not-matches c =
     record {
       bound = search rules;
       strings = λ s t n short es et. (
-    (λ h. absurd (omega arith)),
-    λ h. sym (c.matches.ensures.strings s t n short es et) ∙ c.if-not-matches.true,
-  );
+        (λ h. absurd (omega arith)),
+        λ h. sym (c.matches.ensures.strings s t n short es et) ∙ c.if-not-matches.true,
+      );
     }
 
 pub returns : goal.returns

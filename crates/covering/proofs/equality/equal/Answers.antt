@@ -1,8 +1,6 @@
 -- Lists of either side stand for the same groups exactly where each is within the other (`equal_within`).
 use mathlib.Core.Bool.{Bool, ◌&&◌}
 use mathlib.Core.Path.{sym, ap, ◌∙◌}
-use borrow.Author.Rules.{rules}
-use borrow.Author.Tests.{not-true, not-false}
 use Rattle.covering.specs.Covering.{within}
 use Rattle.covering.proofs.Inclusion.{equal_within}
 use Rattle.covering.proofs.equality.equal.Goals as goal

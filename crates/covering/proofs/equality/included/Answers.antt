@@ -1,13 +1,7 @@
 use mathlib.Core.Path.{◌≡◌, refl, sym, ◌∙◌}
-use Prim.Native.Nat.{◌≤◌, ◌-◌}
 use native.Mathlib.Omega.{arith}
 use borrow.Author.Rules.{rules}
-use borrow.Author.Tests.{not-true, not-false}
-use lib.ListN.{drop}
-use Rattle.model.specs.Growth.{Entries}
-use Rattle.lists.specs.WorkingLists.{Holds}
 use Rattle.lists.proofs.Holding.{holds_length}
-use Rattle.covering.specs.Covering.{within}
 use Rattle.covering.proofs.Inclusion.{within_next, within_end}
 use Rattle.covering.proofs.equality.included.Goals as goal
 

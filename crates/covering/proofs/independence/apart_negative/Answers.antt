@@ -1,21 +1,17 @@
-use mathlib.Core.Bool.{true, false, false≢true}
-use mathlib.Core.Logic.{⊎_elim}
+use mathlib.Core.Bool.{false≢true}
 use mathlib.Core.Path.{◌≡◌, sym, ◌∙◌}
-use Prim.Native.Nat.{ℕ, ◌≤◌, ◌<◌, ◌-◌}
+use Prim.Native.Nat.{◌≤◌, ◌<◌}
 use native.Mathlib.Omega.{arith}
-use lib.ListN.{length, get_or}
-use Rattle.model.specs.Groups.{Bits}
-use Rattle.model.specs.Strings.{covers}
+use lib.ListN.{length}
 use Rattle.model.proofs.Candidates.{meet_length}
-use Rattle.words.specs.Words.{set_word}
-use Rattle.lists.specs.WorkingLists.{OfString}
 use Rattle.covering.specs.Sets.{first_string}
 use Rattle.covering.proofs.FirstVariables.{first_length}
-use Rattle.covering.proofs.MeetingSets.{part, part_meet, part_none, apart_no, apart_all}
+use Rattle.covering.proofs.MeetingSets.{part_meet, part_none, apart_no, apart_all}
 use borrow.Author.Count.{below_more}
 use borrow.Author.Rules.{rules}
-use borrow.Author.Tests.{not-true, not-false}
 use Rattle.covering.proofs.independence.apart_negative.Goals as goal
+use Rattle.covering.proofs.independence.apart_negative.Goals.{then-in_set+then-matches+else-not-covered}
+use Rattle.covering.proofs.independence.apart_negative.Goals.{then-in_set+else-matches, else-in_set}
 
 pub loop-j-init : goal.loop-j-init
 loop-j-init c = (search rules, λ τ s h e d k n b i z. absurd (omega arith))
@@ -36,8 +32,7 @@ returns-then-not-covered c =
     ∙ c.if-not-covered.true)
 
 pub loop-j-preserved : goal.loop-j-preserved
-loop-j-preserved c =
-    (
+loop-j-preserved c = (
   search rules,
   λ τ s h e d k n b.
       let l = c.args.l in
@@ -47,17 +42,19 @@ loop-j-preserved c =
       let same : length s ≡ length (first_string k j) = e ∙ sym n ∙ sym (first_length k j) in
       let short : length s ≤ 32 = rw e h.short in
       below_more _ _ (c.loop-j.invariant.1 τ s h e d k n b) (λ t.
-      ⊎_elim {C = part l τ (covers s) k j ≡ true}
-      (λ p.
-      let z = p.1.ensures k here few b in
-      let m = sym (p.2.ensures.1 s _ same short d z) ∙ p.3.taken in
-      sym (part_meet _ τ s k j m)
-      ∙ sym (p.5.ensures τ _ h (meet_length _ s _ e (sym same ∙ e)) (p.4.ensures.1 s _ same short d z m))
-      ∙ not-false _ p.6.left)
-      (⊎_elim {C = part l τ (covers s) k j ≡ true}
-      (λ p. part_none _ τ s k j (sym (p.2.ensures.1 s _ same short d (p.1.ensures k here few b)) ∙ p.3.left))
-      (λ p. absurd (false≢true (sym p.left ∙ c.in_set.ensures k b ∙ t))))
-      c.if-in_set.branch),
+      elim c.if-in_set.branch [
+        | then-in_set+then-matches+else-not-covered p ↦
+            let z = p.first_at-z.ensures k here few b in
+            let m = sym (p.matches.ensures.strings s _ same short d z) ∙ p.if-matches.true in
+            sym (part_meet l τ s k j m)
+            ∙ sym (p.covered.ensures τ _ h (meet_length _ s _ e (sym same ∙ e))
+            (p.meet.ensures.strings s _ same short d z m))
+            ∙ p.if-not-covered.false
+        | then-in_set+else-matches p ↦
+            part_none l τ s k j
+            (sym (p.matches.ensures.strings s _ same short d (p.first_at-z.ensures k here few b)) ∙ p.if-matches.false)
+        | else-in_set p ↦ absurd (false≢true (sym p.if-in_set.false ∙ c.in_set.ensures k b ∙ t))
+      ]),
 )
 
 pub returns : goal.returns

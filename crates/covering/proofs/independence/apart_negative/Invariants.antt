@@ -1,21 +1,13 @@
 -- Loop: all that y covers with a first variable before j is covered. A part that is not decides (`apart_no`, `apart_all`).
-use mathlib.Core.Bool.{true, false, false≢true}
-use mathlib.Core.Logic.{⊎_elim}
-use mathlib.Core.Path.{◌≡◌, sym, ◌∙◌}
+use mathlib.Core.Bool.{true, false}
+use mathlib.Core.Path.{◌≡◌}
 use Prim.Native.Nat.{ℕ, ◌≤◌, ◌<◌, ◌-◌}
-use native.Mathlib.Omega.{arith}
 use lib.ListN.{length, get_or}
 use Rattle.model.specs.Groups.{Bits}
 use Rattle.model.specs.Strings.{covers}
-use Rattle.model.proofs.Candidates.{meet_length}
 use Rattle.words.specs.Words.{set_word}
 use Rattle.lists.specs.WorkingLists.{OfString}
-use Rattle.covering.specs.Sets.{first_string}
-use Rattle.covering.proofs.FirstVariables.{first_length}
-use Rattle.covering.proofs.MeetingSets.{part, part_meet, part_none, apart_no, apart_all}
-use borrow.Author.Count.{below_more}
-use borrow.Author.Rules.{rules}
-use borrow.Author.Tests.{not-true, not-false}
+use Rattle.covering.proofs.MeetingSets.{part}
 use Rattle.covering.proofs.independence.apart_negative.Given as goal
 
 abbrev pub invariant-loop-j : goal.invariant-loop-j

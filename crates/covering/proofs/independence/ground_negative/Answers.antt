@@ -6,7 +6,6 @@ use Rattle.model.proofs.Positions.{one_at_length}
 use Rattle.words.proofs.Positions.{one_shl}
 use Rattle.words.proofs.Words.{one_word}
 use Rattle.covering.proofs.MeetingSets.{ground_one}
-use borrow.Author.Rules.{rules}
 use Rattle.covering.proofs.independence.ground_negative.Goals as goal
 
 pub returns : goal.returns

@@ -1,25 +1,19 @@
 -- Loop: for each variable of the first set before i, the groups that have it first are apart from the second set.
-use mathlib.Core.Bool.{true, false, false≢true}
-use mathlib.Core.Logic.{⊎_elim}
-use mathlib.Core.Path.{◌≡◌, sym, ◌∙◌}
+use mathlib.Core.Bool.{true, false}
+use mathlib.Core.Path.{◌≡◌}
 use Prim.Native.Nat.{ℕ, ◌≤◌, ◌<◌, ◌-◌}
-use native.Mathlib.Omega.{arith}
 use lib.ListN.{length, get_or}
 use Rattle.model.specs.Groups.{Bits}
 use Rattle.model.specs.Growth.{Entries}
 use Rattle.words.specs.Words.{set_word}
 use Rattle.lists.specs.WorkingLists.{Holds}
 use Rattle.covering.specs.Sets.{first_string, apart}
-use Rattle.covering.proofs.FirstVariables.{first_length}
-use Rattle.covering.proofs.MeetingSets.{independent_no, independent_all}
-use borrow.Author.Count.{below_more}
-use borrow.Author.Rules.{rules}
-use borrow.Author.Tests.{not-true, not-false}
 use Rattle.covering.proofs.independence.independent_negative.Given as goal
 
 abbrev pub invariant-loop-i : goal.invariant-loop-i
 invariant-loop-i l = (l.i ≤ l.l)
-    × ((τ : Entries) (x y : Bits) → Holds l.l l.list l.n τ → length x ≡ l.l → length y ≡ l.l → l.a ≡ set_word x → l.b ≡ set_word y
+    × ((τ : Entries) (x y : Bits) → Holds l.l l.list l.n τ → length x ≡ l.l → length y ≡ l.l
+    → l.a ≡ set_word x → l.b ≡ set_word y
     → (k : ℕ) → k < l.i → get_or x k false ≡ true → apart l.l τ (first_string x k) y ≡ true)
 
 abbrev pub decreases-loop-i : goal.decreases-loop-i

@@ -26,8 +26,7 @@ returns-then-joins c =
     ∙ ap (λ (r : Bool). not r && independent positive l (drop (i + 1) τ) x y) c.if-joins.true)
 
 pub loop-i-preserved : goal.loop-i-preserved
-loop-i-preserved c =
-    (
+loop-i-preserved c = (
   search rules,
   λ l τ x y h u v p q.
       let i = c.loop-i.i in

@@ -12,7 +12,8 @@ use Rattle.covering.proofs.independence.independent_positive.Given as goal
 
 abbrev pub invariant-loop-i : goal.invariant-loop-i
 invariant-loop-i v = (v.i ≤ v.n)
-    × ((l : ℕ) (τ : Entries) (x y : Bits) → Holds l v.list v.n τ → length x ≡ l → length y ≡ l → v.a ≡ set_word x → v.b ≡ set_word y
+    × ((l : ℕ) (τ : Entries) (x y : Bits) → Holds l v.list v.n τ → length x ≡ l → length y ≡ l
+    → v.a ≡ set_word x → v.b ≡ set_word y
     → independent positive l τ x y ≡ independent positive l (drop v.i τ) x y)
 
 abbrev pub decreases-loop-i : goal.decreases-loop-i
