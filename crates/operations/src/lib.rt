@@ -2,6 +2,7 @@
 // side.
 // A refusal returns the table as given; of two tables, the first.
 #![tactic(auto)]
+
 ghost use Rattle.std.specs.Prelude.{◌≡◌, List, ℕ, ◌≤◌, length};
 ghost use Rattle.std.proofs.Math.Option.{some};
 ghost use Rattle.model.specs.Groups.{Bits};

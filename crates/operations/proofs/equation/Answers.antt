@@ -2,7 +2,6 @@
 use mathlib.Core.Path.{sym, ◌∙◌}
 use Rattle.tables.specs.Refusals.{if_accepted}
 use Rattle.operations.specs.Operations.{equation_call}
-use borrow.Author.Rules.{rules}
 use Rattle.operations.proofs.equation.Goals as goal
 
 pub equation_checked-requires : goal.equation_checked-requires

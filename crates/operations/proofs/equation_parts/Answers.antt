@@ -7,7 +7,6 @@ use Rattle.terms.specs.Checks.{if_read}
 use Rattle.operations.specs.Operations.{GivenAs, equation_call}
 use Rattle.operations.specs.declared.Given.{Given}
 use Rattle.operations.proofs.Checked.{good_wide}
-use borrow.Author.Rules.{rules}
 use Rattle.operations.proofs.equation_parts.Goals as goal
 use Rattle.operations.proofs.equation_parts.Goals.{After-read_equation}
 

@@ -6,12 +6,11 @@ use Rattle.operations.specs.Operations.{join_call}
 use Rattle.operations.proofs.join.Goals as goal
 
 pub join_checked-requires : goal.join_checked-requires
-join_checked-requires c =
-    (
-      c.check.ensures.good.0 c.in-Accepted.is,
-      c.check-in-Accepted.ensures.good.0 c.in-Accepted-check.is,
-      sym c.if-t-u.true,
-    )
+join_checked-requires c = (
+  c.check.ensures.good.0 c.in-Accepted.is,
+  c.check-in-Accepted.ensures.good.0 c.in-Accepted-check.is,
+  sym c.if-t-u.true,
+)
 
 pub returns-in-Refused : goal.returns-in-Refused
 unfolding join_call if_accepted

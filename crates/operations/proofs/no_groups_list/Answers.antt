@@ -23,7 +23,7 @@ returns-in-Negative c =
     record {
       few = omega arith;
       made = λ l short.
-      let a = c.args in
-      let none = holds_empty l a.list.now (search rules) short in
-      rw c.in-Negative.is (holds_append none (stars l) (stars_length l) (sym (stars_word l)) (omega arith));
+          let a = c.args in
+          let none = holds_empty l a.list.now (search rules) short in
+          rw c.in-Negative.is (holds_append none (stars l) (stars_length l) (sym (stars_word l)) (omega arith));
     }

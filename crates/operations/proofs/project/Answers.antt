@@ -1,7 +1,6 @@
 -- The check and the test of the set come in the order of the definition; the bits of the set are the new width.
 use mathlib.Core.Path.{◌≡◌, sym, ap, ◌∙◌}
 use mathlib.Core.Bool.{false}
-use borrow.Author.Tests.{not-true, not-false}
 use lib.Count.{ones}
 use Rattle.words.proofs.Codec.{set_length, set_word_set}
 use Rattle.tables.specs.Values.{GoodTable}
@@ -9,7 +8,6 @@ use Rattle.candidates.proofs.Sets.{kept_ones}
 use Rattle.tables.specs.Refusals.{if_accepted}
 use Rattle.operations.specs.Operations.{good_keep, projected, projection_call}
 use Rattle.operations.proofs.Checked.{good_few, good_wide, good_list, keep_test, keep_below}
-use borrow.Author.Rules.{rules}
 use Rattle.operations.proofs.project.Goals as goal
 use Rattle.operations.proofs.project.Goals.{In-Accepted}
 
@@ -24,7 +22,7 @@ pub returns-then-not-keep-full : goal.returns-then-not-keep-full
 unfolding projection_call if_accepted projected
 returns-then-not-keep-full c =
     let a = c.args in
-    let k : good_keep a.t2.l a.keep ≡ false =
+    let k : good_keep a.t.l a.keep ≡ false =
     sym (keep_test _ _ _ c.full.ensures) ∙ c.if-not-keep-full.true in
     rw (
       c.refused-then-not-keep-full.ensures,
@@ -51,7 +49,7 @@ returns-in-Refused c =
 pub returns-else-not-keep-full : goal.returns-else-not-keep-full
 unfolding projection_call if_accepted projected
 returns-else-not-keep-full c =
-    let k = sym (keep_test _ _ _ c.full.ensures) ∙ not-false _ c.if-not-keep-full.false in
+    let k = sym (keep_test _ _ _ c.full.ensures) ∙ c.if-not-keep-full.false in
     let below = set_word_set _ _ (keep_below _ _ k) in
     let given = good_list (checked (goal.at.returns-else-not-keep-full c).In-Accepted) c.load.ensures in
     let makes = c.projection_list-g.ensures.made _ _ given (set_length _ _) (sym below) in

@@ -5,7 +5,6 @@ use native.Mathlib.Omega.{arith}
 use Rattle.terms.proofs.Checking.{checked_refuses}
 use Rattle.walks.proofs.Starting.{all_tokens}
 use Rattle.operations.proofs.Checked.{Read, read_equation, read_counted}
-use borrow.Author.Rules.{rules}
 use Rattle.operations.proofs.read_equation.Goals as goal
 use Rattle.operations.proofs.read_equation.Goals.{In-Variables}
 
@@ -13,6 +12,14 @@ use Rattle.operations.proofs.read_equation.Goals.{In-Variables}
 read : (c : In-Variables) → let a = c.args in
     Read a.l a.x a.ts.now c.in-Variables.m
 read c = read_equation _ _ _ _ (sym c.check_equation.ensures ∙ c.in-Variables.is)
+
+pub overflow_sub-x : goal.overflow_sub-x
+overflow_sub-x c = omega (arith, (read (goal.at.overflow_sub-x c).In-Variables).low)
+
+pub overflow_shl-x : goal.overflow_shl-x
+overflow_shl-x c =
+    let r = read (goal.at.overflow_shl-x c).In-Variables in
+    omega (arith, c.requires, r.high, r.low)
 
 pub returns-in-Refused : goal.returns-in-Refused
 returns-in-Refused c =
