@@ -1,5 +1,6 @@
 // The three questions on table values: equal, ground, independent. None grows a list, so none meets 8.
 #![tactic(auto)]
+
 ghost use Rattle.std.specs.Prelude.{◌≡◌, ◌≤◌, ◌<◌, ◌^◌};
 ghost use Rattle.model.specs.Tables.{positive};
 ghost use Rattle.model.specs.Questions.{equal as equal-lists, ground as ground-list, independent as independent-list};

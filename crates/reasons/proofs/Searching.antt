@@ -15,7 +15,7 @@ use Rattle.model.specs.Groups.{Bits, has, meets, or}
 use Rattle.model.specs.Strings.{Trits, covers}
 use Rattle.model.specs.Growth.{Entries, covered}
 use Rattle.model.specs.Tables.{groups}
-use Rattle.model.specs.Reasons.{covers_inside, lowest, together, made_up, inside}
+use Rattle.model.specs.Reasons.{covers_inside, lowest, together, made_up}
 use Rattle.model.proofs.Tests.{or_cases, or_left, or_right, same_test, decide, true_of, false_of, not_not}
 use Rattle.model.proofs.Bits.{or_length, meets_nonzero}
 use Rattle.model.proofs.Variables.{has_set_of, set_of_has, meets_has, has_meets}

@@ -1,6 +1,7 @@
 // The reason behind each group (02, request 7), on table values: is the group s in a positive table after the equation
 // x = t, and why or why not. No list is grown, so no call meets 8.
 #![tactic(auto)]
+
 pub mod entries; // the entries that cover groups inside s
 
 ghost use Rattle.std.specs.Prelude.{◌≡◌, ℕ, ◌≤◌, length};

@@ -1,0 +1,32 @@
+-- The group's checks come first; then the loaded list is the table's, and s is the word of a set of l variables.
+use mathlib.Core.Path.{sym, ◌∙◌}
+use Rattle.tables.specs.Refusals.{if_accepted}
+use Rattle.words.proofs.Codec.{set_length, set_word_set}
+use Rattle.operations.proofs.Checked.{good_few, good_wide, good_list}
+use Rattle.reasons.specs.Verdicts.{group_call}
+use Rattle.reasons.proofs.Verdicts.{group_below}
+use Rattle.reasons.proofs.judge_read.Goals as goal
+
+pub check_group-requires : goal.check_group-requires
+check_group-requires c = good_wide c.requires
+
+pub load-requires : goal.load-requires
+load-requires c = good_few c.requires
+
+pub told-requires : goal.told-requires
+told-requires c = let g = c.requires in (good_few g, good_wide g)
+
+pub returns-in-Refused : goal.returns-in-Refused
+unfolding group_call if_accepted
+returns-in-Refused c =
+    λ q t.
+    rw (sym c.check_group.ensures ∙ c.in-Refused.is)
+
+pub returns-in-Accepted : goal.returns-in-Accepted
+unfolding group_call if_accepted
+returns-in-Accepted c =
+    λ q t.
+    let ok = sym c.check_group.ensures ∙ c.in-Accepted.is in
+    rw ok
+    (c.told.ensures _ q _ (good_list c.requires c.load.ensures) t (set_length _ _)
+    (sym (set_word_set _ _ (group_below c.args.t.l c.args.s ok).0)))
