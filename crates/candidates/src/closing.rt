@@ -2,7 +2,7 @@
 ghost use Rattle.std.specs.Prelude.{◌≡◌, ◌≤◌, drop};
 ghost use Rattle.std.proofs.Math.Option.{some};
 ghost use Rattle.model.specs.Growth.{Entries, fold};
-ghost use Rattle.model.specs.Tables.{close_with, close as close-list};
+ghost use Rattle.model.specs.Tables.{close_with, close as close_list};
 ghost use Rattle.lists.specs.WorkingLists.{Holds, OfString, Within, Makes};
 ghost use Rattle.lists.specs.Filters.{Filters};
 
@@ -90,7 +90,7 @@ pub fn close(
 ) -> Grown
     requires { (cn ≤ 256) × (l ≤ 32) }
     ensures within { Within result }
-    ensures made { (γ : Entries) → Holds l c.now cn γ → Makes l list.new result (close-list γ) }
+    ensures made { (γ : Entries) → Holds l c.now cn γ → Makes l list.new result (close_list γ) }
 {
     // As a slice its length is known.
     let whole: &[u64] = &*list;

@@ -2,7 +2,7 @@
 ghost use Rattle.std.specs.Prelude.{◌≡◌, [], ◌≤◌, length};
 ghost use Rattle.model.specs.Groups.{Bits};
 ghost use Rattle.model.specs.Growth.{Entries, grow_all};
-ghost use Rattle.model.specs.Tables.{relevant as relevant-list, irrelevant as irrelevant-list};
+ghost use Rattle.model.specs.Tables.{relevant as relevant_list, irrelevant as irrelevant_list};
 ghost use Rattle.words.specs.Words.{set_word};
 ghost use Rattle.lists.specs.WorkingLists.{Holds, Within, Makes};
 ghost use Rattle.candidates.specs.Pairs.{pairs_of};
@@ -115,7 +115,7 @@ pub fn relevant(
     requires { (tn ≤ 256) × (l ≤ 32) }
     ensures within { Within result }
     ensures made { (τ : Entries) (k : Bits) → Holds l t.now tn τ → length k ≡ l → m ≡ set_word k
-        → Makes l list.new result (relevant-list k τ) }
+        → Makes l list.new result (relevant_list k τ) }
 {
     // As a slice its length is known.
     let whole: &[u64] = &*list;
@@ -148,7 +148,7 @@ pub fn irrelevant(
     requires { (tn ≤ 256) × (l ≤ 32) }
     ensures within { Within result }
     ensures made { (τ : Entries) (k : Bits) → Holds l t.now tn τ → length k ≡ l → m ≡ set_word k
-        → Makes l list.new result (irrelevant-list k τ) }
+        → Makes l list.new result (irrelevant_list k τ) }
 {
     // As a slice its length is known.
     let whole: &[u64] = &*list;

@@ -1,7 +1,7 @@
 // Rows of candidate strings, each of one list and one string or set, written into a lent array. Inner: not a public call.
 // Each answers how many strings the row has.
 ghost use Rattle.std.specs.Prelude.{◌≡◌, map, ℕ, ◌≤◌, length};
-ghost use Rattle.model.specs.Groups.{Bits, cut as cut-string};
+ghost use Rattle.model.specs.Groups.{Bits, cut as cut_string};
 ghost use Rattle.model.specs.Strings.{Trits, or_strings, ones};
 ghost use Rattle.model.specs.Growth.{Entries};
 ghost use Rattle.model.specs.Tables.{meets_with, kept};
@@ -65,7 +65,7 @@ pub fn pair_row(op: Pairing, list: &[u64; 256], n: usize, a: u64, row: &mut [u64
 pub fn cut_row(list: &[u64; 256], n: usize, keep: u32, row: &mut [u64; 256])
     requires { n ≤ 256 }
     ensures { (k : Bits) (τ : Entries) → Holds (length k) list.now n τ → keep ≡ set_word k
-        → Holds (kept k) row.new n (map (cut-string k) τ) }
+        → Holds (kept k) row.new n (map (cut_string k) τ) }
 {
     // As a slice its length is known.
     let whole: &[u64] = &*row;

@@ -1,9 +1,9 @@
 // Numbers in byte buffers, low byte first: of 16 bits, and words of 16 or 32. Inner: not a public call.
 #![tactic(auto)]
-ghost use Rattle.std.specs.Prelude.{◌≡◌, ◌+◌, ◌*◌, ◌≤◌, ◌<◌, length, drop};
+ghost use Rattle.std.specs.Prelude.{◌≡◌, ◌+◌, ◌*◌, ◌≤◌, ◌<◌, length, take, drop};
 ghost use Rattle.std.proofs.lemmas.List.Edits.{sets};
 ghost use Rattle.codec.specs.Numbers.{number_at, word_at, numbers, sum, with_zeros};
-ghost use Rattle.codec.specs.Numbers.{WordSize, word_bytes};
+ghost use Rattle.codec.specs.Numbers.{WordSize, word_bytes, bytes};
 
 // Room for the most tokens that an equation, or a list of equations, has.
 pub const TOKENS: usize = 1024;
@@ -98,5 +98,19 @@ pub fn write_word(b: &mut [u8], at: usize, k: usize, w: u32)
     write_number(b, at, w);
     if k == 4 {
         write_number(b, at + 2, w / 65536);
+    }
+}
+
+// Stores the first n words, k bytes for each, from an index on.
+pub fn write_words(b: &mut [u8], at: usize, k: usize, ws: &[u32; 256], n: usize)
+    requires { WordSize k × (n ≤ 256) × (at + k * n ≤ length b.old) }
+    ensures { b.new ≡ sets b.old at (bytes k (take n ws.now)) }
+{
+    // As a slice its length is known.
+    let s: &[u32] = ws;
+    let mut i = 0;
+    while i < n {
+        write_word(b, at + k * i, k, s[i]);
+        i += 1;
     }
 }

@@ -2,10 +2,10 @@
 #![tactic(auto)]
 
 ghost use Rattle.std.specs.Prelude.{◌≡◌, true, map, ◌≤◌};
-ghost use Rattle.model.specs.Growth.{convert as convert-list};
+ghost use Rattle.model.specs.Growth.{convert as convert_list};
 ghost use Rattle.words.specs.Words.{set};
 ghost use Rattle.lists.specs.WorkingLists.{Within, Makes};
-ghost use Rattle.conversion.specs.Conversion.{all_below as all-below-list};
+ghost use Rattle.conversion.specs.Conversion.{all_below as all_below_list};
 
 use lists::Grown;
 use words::Entry;
@@ -14,8 +14,8 @@ use words::Entry;
 pub fn convert(list: &mut [u64; 256], l: u32, words: &[u32]) -> Grown
     requires { l ≤ 32 }
     ensures within { Within result }
-    ensures made { all-below-list l words.now ≡ true
-        → Makes l list.new result (convert-list (map (set l) words.now)) }
+    ensures made { all_below_list l words.now ≡ true
+        → Makes l list.new result (convert_list (map (set l) words.now)) }
 {
     // As a slice its length is known.
     let whole: &[u64] = &*list;
@@ -44,7 +44,7 @@ pub fn convert(list: &mut [u64; 256], l: u32, words: &[u32]) -> Grown
 // Has no word a bit above l?
 pub fn all_below(l: u32, words: &[u32]) -> bool
     requires { l ≤ 32 }
-    ensures { result ≡ all-below-list l words.now }
+    ensures { result ≡ all_below_list l words.now }
 {
     let full = words::full(l);
     let mut good = true;

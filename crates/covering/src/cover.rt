@@ -2,10 +2,10 @@
 // `covered` calls itself no deeper than the string has stars: each call has one position more fixed, or several.
 ghost use Rattle.std.specs.Prelude.{◌≡◌, true, false, not, ◌&&◌, ℕ, ◌^◌, ◌≤◌, ◌<◌, length};
 ghost use Rattle.model.specs.Strings.{Trits, covers, matches, fixed};
-ghost use Rattle.model.specs.Growth.{covered as covered-list};
+ghost use Rattle.model.specs.Growth.{covered as covered_list};
 ghost use Rattle.words.specs.Words.{word, opposed_word};
 ghost use Rattle.lists.specs.WorkingLists.{OfString};
-ghost use Rattle.covering.specs.Covering.{Narrows, Nearest, agreed as agreed-string, all_covered};
+ghost use Rattle.covering.specs.Covering.{Narrows, Nearest, agreed as agreed_string, all_covered};
 
 // y with what each group has that y covers and v does not: where y lacks just one position of v, the opposite of v there,
 // which y has already where the two do not match. Else y as it is. (In the field: unit propagation; it fixes a position that
@@ -28,7 +28,7 @@ fn narrowed_by(v: u64, y: u64) -> u64
 fn narrowed(list: &[u64; 256], n: usize, y: u64) -> u64
     requires { n ≤ 256 }
     ensures more { y ≤ result }
-    ensures strings { (l : ℕ) → OfString l list.now n y (λ τ s. Narrows (covered-list τ) s result) }
+    ensures strings { (l : ℕ) → OfString l list.now n y (λ τ s. Narrows (covered_list τ) s result) }
 {
     let mut x = y;
     let mut i = 0;
@@ -89,7 +89,7 @@ fn agreed(y: u64, v: u64, i: u32) -> u64
     requires { i < 32 }
     ensures more { y ≤ result }
     ensures strings { (s t : Trits) → length s ≡ length t → length s ≤ 32 → y ≡ word s → v ≡ word t → fixed i s ≡ false → fixed i t ≡ true
-        → result ≡ word (agreed-string i t s) }
+        → result ≡ word (agreed_string i t s) }
 {
     let bit = 1u64 << i;
     y | (v & ((bit << 32) | bit))

@@ -2,7 +2,7 @@
 ghost use Rattle.std.specs.Prelude.{◌≡◌, ◌≤◌};
 ghost use Rattle.model.specs.Growth.{Entries};
 ghost use Rattle.model.specs.Tables.{Side};
-ghost use Rattle.model.specs.Questions.{equal as equal-lists};
+ghost use Rattle.model.specs.Questions.{equal as equal_lists};
 ghost use Rattle.lists.specs.WorkingLists.{Holds};
 ghost use Rattle.covering.specs.Covering.{within};
 
@@ -25,7 +25,7 @@ fn included(a: &[u64; 256], an: usize, b: &[u64; 256], bn: usize, l: u32) -> boo
 pub fn equal(a: &[u64; 256], an: usize, b: &[u64; 256], bn: usize, l: u32) -> bool
     requires { (an ≤ 256) × (bn ≤ 256) × (l ≤ 32) }
     ensures { (side : Side) (α β : Entries) → Holds l a.now an α → Holds l b.now bn β
-        → result ≡ equal-lists side l α β }
+        → result ≡ equal_lists side l α β }
 {
     if !included(a, an, b, bn, l) {
         return false;

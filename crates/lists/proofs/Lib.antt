@@ -5,6 +5,7 @@ pub mod RowLoops
 pub mod WordTests
 pub mod NearEntries
 pub mod WideningByPasses
+pub mod Edges
 pub mod Guards
 pub mod Growing
 pub mod Surveys

@@ -70,6 +70,12 @@ module _ (s t : Trits) (over : T (subsumes t s)) where
           ∙ ap (λ (x : ℕ). bit_or x (set_word (open_set τ t))) (far_none e s t w.0 long q over)
           ∙ or_zero_l (set_word (open_set τ t)))
 
+-- no entry subsumes anything
+pub empty_subsumed : (τ : Entries) (s : Trits) → 0 ≡ length τ → subsumed τ s ≡ false
+unfolding subsumed
+empty_subsumed [] s e = refl
+empty_subsumed (r ∷ τ) s e = absurd (omega arith)
+
 -- ---- The near entries of a list
 
 near_append : (τ ρ : Entries) (s : Trits) → near_list (τ ++ ρ) s ≡ near_list τ s ++ near_list ρ s

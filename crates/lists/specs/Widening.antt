@@ -7,7 +7,7 @@ use Rattle.model.specs.Tables.{Wide}
 use Rattle.model.specs.Widest.{EntryOf}
 use Rattle.tables.specs.Lists.{some_from}
 use Rattle.words.specs.Words.{word, zero_word, near, openings, shade_word, has, fixed_word, subsumes_word, lone_lack}
-use Rattle.words.specs.Words.{if_over}
+use Rattle.words.specs.Words.{if_over, set_word}
 use Rattle.lists.specs.declared.widening.Standing.{Standing}
 use Rattle.lists.specs.declared.widening.Standing.TheVariants.{Absorbed, Stays, Open}
 use Rattle.lists.specs.WorkingLists.{Holds}
@@ -75,6 +75,11 @@ abbrev pub Surveyed : Entries → Trits → Standing → Type 0
 Surveyed τ s Absorbed = Guarded τ s
 Surveyed τ s Stays = Untouched τ s
 Surveyed τ s Open = Unit {0}
+
+-- Every entry that opens a position of s subsumes s: none that is opposed to s at one position alone.
+unfoldable pub Unedged : Entries → Trits → Type 0
+Unedged [] s = Unit {0}
+Unedged (e ∷ τ) s = (subsumes e s ≡ false → set_word (openings e s) ≡ 0) × Unedged τ s
 
 -- The word of s widened, or that of the all-zero string of l positions where growing by s changes nothing.
 unfoldable pub fresh_word : ℕ → Entries → Trits → ℕ

@@ -6,10 +6,10 @@
 ghost use Rattle.std.specs.Prelude.{◌≡◌, true, false, [], ◌∷◌, ◌++◌, ℕ, ◌≤◌, ◌<◌, T, length};
 ghost use Rattle.std.proofs.Math.Option.{some};
 ghost use Rattle.model.specs.Strings.{Trits, subsumes, all_zero};
-ghost use Rattle.model.specs.Growth.{Entries, remove, absorbed, grow as grow-list, grow_all};
+ghost use Rattle.model.specs.Growth.{Entries, remove, absorbed, grow as grow_list, grow_all};
 ghost use Rattle.words.specs.Words.{word, care_of};
 ghost use Rattle.lists.specs.WorkingLists.{Holds, OfString, Within, Makes};
-ghost use Rattle.lists.specs.Filters.{Idle, QuietFrom, slots, Filters, Seen};
+ghost use Rattle.lists.specs.Filters.{Unmoved, QuietFrom, slots, Filters, Seen};
 
 use crate::Grown;
 use crate::widening::Standing;
@@ -54,7 +54,7 @@ fn unseen(row: &[u64; 256], j: usize, m: usize, seen: &[u64; SIZE]) -> usize
 // Notes y, by which growing the list changes nothing, and the positions that its widening leaves fixed.
 fn note(seen: &mut [u64; SIZE], y: u64, kept: u64)
     ensures { (l : ℕ) (τ : Entries) (s z : Trits) → l ≤ 32 → Filters l seen.old τ → length s ≡ l → y ≡ word s
-        → kept ≡ care_of z → T (subsumes z s) → Idle τ s z → Filters l seen.new τ }
+        → kept ≡ care_of z → T (subsumes z s) → Unmoved τ s z → Filters l seen.new τ }
 {
     let s = slot(y);
     let version = seen[VERSION] % words::HALF;
@@ -124,9 +124,9 @@ fn grow_widened(list: &mut [u64; 256], n: usize, l: u32, y: u64, seen: &mut [u64
     requires { (n ≤ 256) × (l ≤ 32) }
     ensures within { Within result }
     ensures made { OfString l list.old n y (λ τ s.
-        all_zero s ≡ false → Makes l list.new result (grow-list τ s)) }
+        all_zero s ≡ false → Makes l list.new result (grow_list τ s)) }
     ensures filter { OfString l list.old n y (λ τ s.
-        (κ : Entries) → all_zero s ≡ false → Filters l seen.old τ → grow-list τ s ≡ some κ
+        (κ : Entries) → all_zero s ≡ false → Filters l seen.old τ → grow_list τ s ≡ some κ
         → Filters l seen.new κ) }
 {
     let k = crate::widening::prepare(list, n, y);
@@ -146,9 +146,9 @@ fn grow_surveyed(list: &mut [u64; 256], n: usize, l: u32, y: u64, seen: &mut [u6
     requires { (n ≤ 256) × (l ≤ 32) }
     ensures within { Within result }
     ensures made { OfString l list.old n y (λ τ s.
-        all_zero s ≡ false → Makes l list.new result (grow-list τ s)) }
+        all_zero s ≡ false → Makes l list.new result (grow_list τ s)) }
     ensures filter { OfString l list.old n y (λ τ s.
-        (κ : Entries) → all_zero s ≡ false → Filters l seen.old τ → grow-list τ s ≡ some κ
+        (κ : Entries) → all_zero s ≡ false → Filters l seen.old τ → grow_list τ s ≡ some κ
         → Filters l seen.new κ) }
 {
     match crate::widening::survey(list, n, y) {
@@ -171,9 +171,9 @@ fn grow_noted(list: &mut [u64; 256], n: usize, l: u32, y: u64, seen: &mut [u64; 
     requires { (n ≤ 256) × (l ≤ 32) }
     ensures within { Within result }
     ensures made { OfString l list.old n y (λ τ s.
-        Filters l seen.old τ → Makes l list.new result (grow-list τ s)) }
+        Filters l seen.old τ → Makes l list.new result (grow_list τ s)) }
     ensures filter { OfString l list.old n y (λ τ s.
-        (κ : Entries) → Filters l seen.old τ → grow-list τ s ≡ some κ → Filters l seen.new κ) }
+        (κ : Entries) → Filters l seen.old τ → grow_list τ s ≡ some κ → Filters l seen.new κ) }
 {
     if words::is_zero(l, y) {
         return Grown::Count(n);

@@ -1,6 +1,6 @@
 // Growing a working list (01, "The growth rule"). Inner: not a public call.
 ghost use Rattle.std.specs.Prelude.{◌≡◌, false, not, ℕ, ◌-◌, ◌≤◌, ◌<◌, get_or};
-ghost use Rattle.model.specs.Growth.{Entries, subsumed as subsumed-list, remove, append as append-to, grow as grow-list, grow_all};
+ghost use Rattle.model.specs.Growth.{Entries, subsumed as subsumed_list, remove, append as append_to, grow as grow_list, grow_all};
 ghost use Rattle.words.specs.Words.{subsumes_word};
 ghost use Rattle.tables.specs.Lists.{some_from};
 ghost use Rattle.tables.specs.Values.{all_from};
@@ -10,7 +10,7 @@ use crate::Grown;
 use tables::Table;
 
 // Does one of the strings from j up to end subsume y?
-fn some_subsumes(list: &[u64; 256], j: usize, end: usize, y: u64) -> bool
+pub fn some_subsumes(list: &[u64; 256], j: usize, end: usize, y: u64) -> bool
     requires { (j ≤ end) × (end ≤ 256) }
     ensures { result ≡ some_from j (end - j) (λ i. subsumes_word (get_or list.now i 0) y) }
 {
@@ -27,7 +27,7 @@ fn some_subsumes(list: &[u64; 256], j: usize, end: usize, y: u64) -> bool
 pub fn subsumed(list: &[u64; 256], n: usize, y: u64) -> bool
     requires { n ≤ 256 }
     ensures words { result ≡ some_from 0 n (λ i. subsumes_word (get_or list.now i 0) y) }
-    ensures strings { (l : ℕ) → OfString l list.now n y (λ τ s. result ≡ subsumed-list τ s) }
+    ensures strings { (l : ℕ) → OfString l list.now n y (λ τ s. result ≡ subsumed_list τ s) }
 {
     if n < 8 {
         return some_subsumes(list, 0, n, y);
@@ -98,7 +98,7 @@ fn pack(list: &mut [u64; 256], j: usize, n: usize, y: u64) -> usize
 pub fn append(list: &mut [u64; 256], n: usize, y: u64) -> Grown
     requires { n ≤ 256 }
     ensures within { Within result }
-    ensures made { (l : ℕ) → OfString l list.old n y (λ τ s. Makes l list.new result (append-to τ s)) }
+    ensures made { (l : ℕ) → OfString l list.old n y (λ τ s. Makes l list.new result (append_to τ s)) }
 {
     if n < Table::ENTRIES {
         list[n] = y;
@@ -114,7 +114,7 @@ pub fn insert(list: &mut [u64; 256], n: usize, l: u32, y: u64) -> Grown
     requires { (n ≤ 256) × (l ≤ 32) }
     ensures within { Within result }
     ensures made { OfString l list.old n y (λ τ s.
-        subsumed-list τ s ≡ false → Makes l list.new result (append-to (remove s τ) s)) }
+        subsumed_list τ s ≡ false → Makes l list.new result (append_to (remove s τ) s)) }
 {
     if words::starless(l, y) {
         return append(list, n, y);
@@ -128,7 +128,7 @@ pub fn insert(list: &mut [u64; 256], n: usize, l: u32, y: u64) -> Grown
 pub fn grow(list: &mut [u64; 256], n: usize, l: u32, y: u64) -> Grown
     requires { (n ≤ 256) × (l ≤ 32) }
     ensures within { Within result }
-    ensures made { OfString l list.old n y (λ τ s. Makes l list.new result (grow-list τ s)) }
+    ensures made { OfString l list.old n y (λ τ s. Makes l list.new result (grow_list τ s)) }
 {
     let z = crate::widening::fresh(list, n, l, y);
     if words::is_zero(l, z) {

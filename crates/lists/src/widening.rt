@@ -3,10 +3,10 @@
 // 128 entries what widening needs of these, their shades, is gathered in the upper half of the array, which is room.
 ghost use Rattle.std.specs.Prelude.{◌≡◌, false, ℕ, ◌≤◌};
 ghost use Rattle.model.specs.Strings.{Trits, all_zero};
-ghost use Rattle.model.specs.Growth.{Entries, subsumed as subsumed-list, widen as widen-list};
+ghost use Rattle.model.specs.Growth.{Entries, subsumed as subsumed_list, widen as widen_list};
 ghost use Rattle.words.specs.Words.{word, set_word};
 ghost use Rattle.lists.specs.WorkingLists.{Holds, OfString};
-ghost use Rattle.lists.specs.Widening.{half, near_list, open_set as open-set-of, Gathered, Shaded, Ready, OfWidened};
+ghost use Rattle.lists.specs.Widening.{half, near_list, open_set as open_set_of, Gathered, Shaded, Ready, OfWidened};
 ghost use Rattle.lists.specs.Widening.{Scanned, Surveyed, fresh_word};
 
 // A list of no more entries leaves the upper half of its array as room.
@@ -66,7 +66,7 @@ pub fn prepare(list: &mut [u64; 256], n: usize, y: u64) -> usize
 fn shade_set(list: &[u64; 256], k: usize, y: u64, z: u64) -> u64
     requires { k ≤ half }
     ensures { (τ : Entries) (s t : Trits) → Shaded s list.now k (near_list τ s)
-        → OfWidened y z τ s t (result ≡ set_word (open-set-of (near_list τ s) t)) }
+        → OfWidened y z τ s t (result ≡ set_word (open_set_of (near_list τ s) t)) }
 {
     let mut found = 0u64;
     let mut i = 0;
@@ -80,7 +80,7 @@ fn shade_set(list: &[u64; 256], k: usize, y: u64, z: u64) -> u64
 // The fixed positions of z at which z with that value flipped is subsumed by one of n entries.
 fn entry_set(list: &[u64; 256], n: usize, z: u64) -> u64
     requires { n ≤ 256 }
-    ensures { (l : ℕ) → OfString l list.now n z (λ τ t. result ≡ set_word (open-set-of τ t)) }
+    ensures { (l : ℕ) → OfString l list.now n z (λ τ t. result ≡ set_word (open_set_of τ t)) }
 {
     let mut found = 0u64;
     let mut i = 0;
@@ -95,7 +95,7 @@ fn entry_set(list: &[u64; 256], n: usize, z: u64) -> u64
 fn open_set(list: &[u64; 256], n: usize, k: usize, y: u64, z: u64) -> u64
     requires { (n ≤ 256) × (k ≤ half) }
     ensures { (l : ℕ) (τ : Entries) (s t : Trits) → Ready l list.now n k τ s
-        → OfWidened y z τ s t (result ≡ set_word (open-set-of τ t)) }
+        → OfWidened y z τ s t (result ≡ set_word (open_set_of τ t)) }
 {
     if UPPER < n {
         return entry_set(list, n, z);
@@ -108,7 +108,7 @@ fn open_set(list: &[u64; 256], n: usize, k: usize, y: u64, z: u64) -> u64
 // finds one position alone is the last.
 pub fn widen(list: &[u64; 256], n: usize, k: usize, l: u32, y: u64) -> u64
     requires { (n ≤ 256) × (k ≤ half) × (l ≤ 32) }
-    ensures { (τ : Entries) (s : Trits) → Ready l list.now n k τ s → y ≡ word s → result ≡ word (widen-list τ s) }
+    ensures { (τ : Entries) (s : Trits) → Ready l list.now n k τ s → y ≡ word s → result ≡ word (widen_list τ s) }
 {
     let mut z = y;
     let mut i = 0u32;
@@ -137,7 +137,7 @@ pub fn widen(list: &[u64; 256], n: usize, k: usize, l: u32, y: u64) -> u64
 fn shades_subsume(list: &[u64; 256], k: usize, y: u64, z: u64) -> bool
     requires { k ≤ half }
     ensures { (τ : Entries) (s t : Trits) → Shaded s list.now k (near_list τ s)
-        → OfWidened y z τ s t (result ≡ subsumed-list (near_list τ s) t) }
+        → OfWidened y z τ s t (result ≡ subsumed_list (near_list τ s) t) }
 {
     let mut found = false;
     let mut i = 0;
@@ -152,7 +152,7 @@ fn shades_subsume(list: &[u64; 256], k: usize, y: u64, z: u64) -> bool
 pub fn covered(list: &[u64; 256], n: usize, k: usize, y: u64, z: u64) -> bool
     requires { (n ≤ 256) × (k ≤ half) }
     ensures { (l : ℕ) (τ : Entries) (s t : Trits) → Ready l list.now n k τ s
-        → OfWidened y z τ s t (result ≡ subsumed-list τ t) }
+        → OfWidened y z τ s t (result ≡ subsumed_list τ t) }
 {
     if UPPER < n {
         return crate::growth::subsumed(list, n, z);

@@ -7,7 +7,7 @@ ghost use Rattle.std.specs.Prelude.{◌≡◌, List, ℕ, ◌≤◌, length};
 ghost use Rattle.std.proofs.Math.Option.{some};
 ghost use Rattle.model.specs.Groups.{Bits};
 ghost use Rattle.model.specs.Growth.{Entries, limit};
-ghost use Rattle.model.specs.Tables.{equation_of_sets, join as join-lists, kept, projection, no_groups};
+ghost use Rattle.model.specs.Tables.{equation_of_sets, join as join_lists, kept, projection, no_groups};
 ghost use Rattle.model.specs.Equations as M;
 ghost use Rattle.model.specs.Walk.{Walked};
 ghost use Rattle.model.specs.Unification.{walk_entries};
@@ -110,8 +110,8 @@ fn equation_list(
         Makes l list.new result (equation_of_sets (side_of side) l x t τ)) }
 {
     match side {
-        Side::Positive => procedures::equations::positive(t, tn, l, mx, mt, list),
-        Side::Negative => procedures::equations::negative(t, tn, l, mx, mt, list),
+        Side::Positive => procedures::equations::positive_in_place(t, tn, l, mx, mt, list),
+        Side::Negative => procedures::equations::negative_in_place(t, tn, l, mx, mt, list),
     }
 }
 
@@ -188,7 +188,7 @@ pub fn equation_parts<'a>(
 }
 
 // The same on a checked table.
-fn equation_checked(side: Side, t: Table, x: u32, ts: &[u16]) -> Answered
+pub fn equation_checked(side: Side, t: Table, x: u32, ts: &[u16]) -> Answered
     requires { GoodTable t }
     ensures { result ≡ equation_call (side_of side) t x ts.now }
 {
@@ -309,7 +309,7 @@ pub fn unify_parts<'a>(
 }
 
 // The same on a checked table.
-fn unify_checked(side: Side, t: Table, left: &[u16], right: &[u16]) -> Answered
+pub fn unify_checked(side: Side, t: Table, left: &[u16], right: &[u16]) -> Answered
     requires { GoodTable t }
     ensures { result ≡ unify_call (side_of side) t left.now right.now }
 {
@@ -341,7 +341,7 @@ fn join_list(
     requires { (an ≤ limit) × (bn ≤ limit) × (l ≤ 32) }
     ensures within { Within result }
     ensures made { (α β : Entries) → Holds l a.now an α → Holds l b.now bn β
-        → Makes l list.new result (join-lists (side_of side) α β) }
+        → Makes l list.new result (join_lists (side_of side) α β) }
 {
     match side {
         Side::Positive => procedures::projections::join_positive(a, an, b, bn, l, list),
@@ -352,7 +352,7 @@ fn join_list(
 // The join of two checked tables of one width.
 fn join_checked(side: Side, t: Table, u: Table) -> Answered
     requires { GoodTable t × GoodTable u × (u.l ≡ t.l) }
-    ensures { result ≡ made_or_full t.l t (join-lists (side_of side) (entries_of t) (entries_of u)) }
+    ensures { result ≡ made_or_full t.l t (join_lists (side_of side) (entries_of t) (entries_of u)) }
 {
     let l = t.l;
     let an = t.n;
@@ -440,7 +440,7 @@ pub fn change_side(side: Side, t: Table) -> Answered
             let mut list = [0u64; 256];
             let mut taken = [0u64; 256];
             let mut edges = [0u64; 256];
-            let g = sides::change_side(&given, n, l, &mut list, &mut taken, &mut edges);
+            let g = sides::change_side_lent(&given, n, l, &mut list, &mut taken, &mut edges);
             lists::values::made_or_full(l, t, g, &list)
         }
     }

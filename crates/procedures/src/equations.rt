@@ -58,7 +58,7 @@ fn positive_closed_cross(
 }
 
 // Equation, positive, for x alone in mx and t's variables in mt. Of the table's array nothing is said afterwards.
-pub fn positive(
+pub fn positive_in_place(
     t: &mut [u64; 256],
     tn: usize,
     l: u32,
@@ -102,7 +102,7 @@ fn having(
 {
     *other = *t;
     match lists::growth::grow(other, tn, l, (m as u64) << 32) {
-        Grown::Count(n) => sides::change_side(other, n, l, list, taken, edges),
+        Grown::Count(n) => sides::change_side_lent(other, n, l, list, taken, edges),
         Grown::Full => Grown::Full,
     }
 }
@@ -128,7 +128,7 @@ fn negative_closed_cross(
     match having(t, tn, l, mx, &mut a, other, row, &mut edges) {
         Grown::Count(an) => match having(t, tn, l, mt, list, other, row, &mut edges) {
             Grown::Count(bn) => match closed_cross(&mut a, an, list, bn, l, other, row) {
-                Grown::Count(n) => sides::change_side(&a, n, l, list, other, row),
+                Grown::Count(n) => sides::change_side_lent(&a, n, l, list, other, row),
                 Grown::Full => Grown::Full,
             },
             Grown::Full => Grown::Full,
@@ -149,7 +149,7 @@ fn lacking(t: &mut [u64; 256], tn: usize, l: u32, m: u32, row: &mut [u64; 256]) 
 }
 
 // Equation, negative, for x alone in mx and t's variables in mt. Of the table's array nothing is said afterwards.
-pub fn negative(
+pub fn negative_in_place(
     t: &mut [u64; 256],
     tn: usize,
     l: u32,
@@ -172,4 +172,24 @@ pub fn negative(
         },
         Grown::Full => Grown::Full,
     }
+}
+
+// Equation, positive, for x alone in mx and t's variables in mt.
+pub fn positive(t: &[u64; 256], tn: usize, l: u32, mx: u32, mt: u32, list: &mut [u64; 256]) -> Grown
+    requires { (tn ≤ 256) × (l ≤ 32) }
+    ensures within { Within result }
+    ensures made { OfSets l t.entry.now tn mx mt (λ τ x t. Makes l list.new result (positive_equation x t τ)) }
+{
+    let mut own = *t;
+    positive_in_place(&mut own, tn, l, mx, mt, list)
+}
+
+// Equation, negative, for x alone in mx and t's variables in mt.
+pub fn negative(t: &[u64; 256], tn: usize, l: u32, mx: u32, mt: u32, list: &mut [u64; 256]) -> Grown
+    requires { (tn ≤ 256) × (l ≤ 32) }
+    ensures within { Within result }
+    ensures made { OfSets l t.entry.now tn mx mt (λ τ x t. Makes l list.new result (negative_equation l x t τ)) }
+{
+    let mut own = *t;
+    negative_in_place(&mut own, tn, l, mx, mt, list)
 }

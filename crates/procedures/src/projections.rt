@@ -2,7 +2,7 @@
 ghost use Rattle.std.specs.Prelude.{◌≡◌, ◌≤◌, length};
 ghost use Rattle.model.specs.Groups.{Bits};
 ghost use Rattle.model.specs.Growth.{Entries};
-ghost use Rattle.model.specs.Tables.{positive as positive-side, negative as negative-side, join, kept, projection};
+ghost use Rattle.model.specs.Tables.{positive as positive_side, negative as negative_side, join, kept, projection};
 ghost use Rattle.words.specs.Words.{set_word};
 ghost use Rattle.lists.specs.WorkingLists.{Holds, Within, Makes};
 
@@ -21,7 +21,7 @@ pub fn join_positive(
     requires { (an ≤ 256) × (bn ≤ 256) × (l ≤ 32) }
     ensures within { Within result }
     ensures made { (α β : Entries) → Holds l a.now an α → Holds l b.now bn β
-        → Makes l list.new result (join positive-side α β) }
+        → Makes l list.new result (join positive_side α β) }
 {
     *list = *a;
     lists::growth::grow_each(list, an, l, b, bn)
@@ -39,7 +39,7 @@ pub fn join_negative(
     requires { (an ≤ 256) × (bn ≤ 256) × (l ≤ 32) }
     ensures within { Within result }
     ensures made { (α β : Entries) → Holds l a.now an α → Holds l b.now bn β
-        → Makes l list.new result (join negative-side α β) }
+        → Makes l list.new result (join negative_side α β) }
 {
     let mut row = [0u64; 256];
     candidates::pairs::pairs(Pairing::Meet, a, an, b, bn, l, list, &mut row)
@@ -50,7 +50,7 @@ pub fn positive(t: &[u64; 256], tn: usize, keep: u32, list: &mut [u64; 256]) -> 
     requires { tn ≤ 256 }
     ensures within { Within result }
     ensures made { (k : Bits) (τ : Entries) → Holds (length k) t.now tn τ → keep ≡ set_word k
-        → Makes (kept k) list.new result (projection positive-side (length k) k τ) }
+        → Makes (kept k) list.new result (projection positive_side (length k) k τ) }
 {
     // As a slice its length is known.
     let whole: &[u64] = &*list;
@@ -64,16 +64,16 @@ pub fn negative(t: &[u64; 256], tn: usize, l: u32, keep: u32, list: &mut [u64; 2
     requires { (tn ≤ 256) × (l ≤ 32) }
     ensures within { Within result }
     ensures made { (k : Bits) (τ : Entries) → Holds l t.now tn τ → length k ≡ l → keep ≡ set_word k
-        → Makes (kept k) list.new result (projection negative-side l k τ) }
+        → Makes (kept k) list.new result (projection negative_side l k τ) }
 {
     let mut other = [0u64; 256];
     let mut taken = [0u64; 256];
     let mut edges = [0u64; 256];
-    match sides::change_side(t, tn, l, list, &mut taken, &mut edges) {
+    match sides::change_side_lent(t, tn, l, list, &mut taken, &mut edges) {
         Grown::Count(n) => match positive(list, n, keep, &mut other) {
             Grown::Count(k) => {
                 let w = u32::count_ones(keep);
-                sides::change_side(&other, k, w, list, &mut taken, &mut edges)
+                sides::change_side_lent(&other, k, w, list, &mut taken, &mut edges)
             }
             Grown::Full => Grown::Full,
         },

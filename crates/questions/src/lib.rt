@@ -3,7 +3,7 @@
 
 ghost use Rattle.std.specs.Prelude.{◌≡◌, ◌≤◌, ◌<◌, ◌^◌};
 ghost use Rattle.model.specs.Tables.{positive};
-ghost use Rattle.model.specs.Questions.{equal as equal-lists, ground as ground-list, independent as independent-list};
+ghost use Rattle.model.specs.Questions.{equal as equal_lists, ground as ground_list, independent as independent_list};
 ghost use Rattle.words.specs.Words.{set};
 ghost use Rattle.tables.specs.Values.{GoodTable, entries_of};
 ghost use Rattle.operations.specs.Operations.{side_of};
@@ -55,7 +55,7 @@ fn replied(yes: bool) -> Reply
 // Do two checked tables of one width and one side, whichever it is, stand for the same groups?
 fn equal_checked(t: Table, u: Table) -> bool
     requires { GoodTable t × GoodTable u × (u.l ≡ t.l) }
-    ensures { result ≡ equal-lists positive t.l (entries_of t) (entries_of u) }
+    ensures { result ≡ equal_lists positive t.l (entries_of t) (entries_of u) }
 {
     let l = t.l;
     let an = t.n;
@@ -89,7 +89,7 @@ pub fn equal(t: Table, u: Table) -> Reply
 // Has no group of a checked table the variable Xx?
 fn ground_checked(side: Side, t: Table, x: u32) -> bool
     requires { GoodTable t × (1 ≤ x) × (x ≤ t.l) }
-    ensures { result ≡ ground-list (side_of side) t.l (entries_of t) x }
+    ensures { result ≡ ground_list (side_of side) t.l (entries_of t) x }
 {
     let l = t.l;
     let n = t.n;
@@ -120,7 +120,7 @@ pub fn ground(side: Side, t: Table, x: u32) -> Reply
 // Does no group of a checked table meet both sets?
 fn independent_checked(side: Side, t: Table, a: u32, b: u32) -> bool
     requires { GoodTable t × (a < 2 ^ t.l) × (b < 2 ^ t.l) }
-    ensures { result ≡ independent-list (side_of side) t.l (entries_of t) (set t.l a) (set t.l b) }
+    ensures { result ≡ independent_list (side_of side) t.l (entries_of t) (set t.l a) (set t.l b) }
 {
     let l = t.l;
     let n = t.n;

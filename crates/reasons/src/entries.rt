@@ -2,15 +2,15 @@
 ghost use Rattle.std.specs.Prelude.{◌≡◌, ℕ, ◌≤◌, length};
 ghost use Rattle.model.specs.Groups.{Bits};
 ghost use Rattle.model.specs.Strings.{Trits};
-ghost use Rattle.model.specs.Reasons.{covers_inside, lowest as lowest-entry, together as together-set};
+ghost use Rattle.model.specs.Reasons.{covers_inside, lowest as lowest_entry, together as together_set};
 ghost use Rattle.words.specs.Words.{word, set_word};
-ghost use Rattle.reasons.specs.Entries.{largest as largest-inside, largest_word, OfParts, found};
+ghost use Rattle.reasons.specs.Entries.{largest as largest_inside, largest_word, OfParts, found};
 
 // The largest group inside s that e covers: what of s is not 0 in e. The empty set where e has a 1 outside s.
 fn largest(e: u64, s: u32) -> u32
     ensures words { result ≡ largest_word e s }
     ensures strings { (k : Bits) (t : Trits) → length k ≡ length t → length t ≤ 32 → e ≡ word t → s ≡ set_word k
-        → result ≡ set_word (largest-inside k t) }
+        → result ≡ set_word (largest_inside k t) }
 {
     let zeros = (e >> 32) as u32;
     let ones = (e % words::HALF) as u32;
@@ -24,7 +24,7 @@ fn largest(e: u64, s: u32) -> u32
 pub fn lowest(list: &[u64; 256], n: usize, s: u32, m: u32) -> usize
     requires { n ≤ 256 }
     ensures bound { result ≤ n }
-    ensures entry { (l : ℕ) → OfParts l list.now n s m (λ τ k h. found n result ≡ lowest-entry (covers_inside l k h) τ) }
+    ensures entry { (l : ℕ) → OfParts l list.now n s m (λ τ k h. found n result ≡ lowest_entry (covers_inside l k h) τ) }
 {
     let mut at = 0;
     while at < n {
@@ -39,7 +39,7 @@ pub fn lowest(list: &[u64; 256], n: usize, s: u32, m: u32) -> usize
 // The groups inside s that have a variable of m, together.
 pub fn together(list: &[u64; 256], n: usize, s: u32, m: u32) -> u32
     requires { n ≤ 256 }
-    ensures { (l : ℕ) → OfParts l list.now n s m (λ τ k h. result ≡ set_word (together-set l k h τ)) }
+    ensures { (l : ℕ) → OfParts l list.now n s m (λ τ k h. result ≡ set_word (together_set l k h τ)) }
 {
     let mut set = 0u32;
     let mut i = 0;

@@ -1,17 +1,35 @@
 // Reads a positive table and then equations on standard input, and prints the table and what each equation makes of it.
 #![tactic(auto)]
-use libc::{STDIN_FILENO, STDOUT_FILENO};
 
-// One byte more than an input may have (most-input): what follows it cannot change the answer.
+ghost use Rattle.std.specs.Prelude.{◌≤◌, IfOk, length};
+
+use std::io::{self, Read, Write};
+
+// One byte more than an input may have (most_input): what follows it cannot change the answer.
 const INPUT: usize = 8193;
 
-// No text is longer than 65 tables of 256 lines of 33 bytes, each under a line of at most 25 (most-text).
+// No text is longer than 65 tables of 256 lines of 33 bytes, each under a line of at most 25 (most_text).
 const TEXT: usize = 552500;
 
-fn main() {
+// Reads until the buffer is full or the input ends. The number of bytes that it put at the start of the buffer.
+fn read_full<R: Read>(from: &mut R, into: &mut [u8]) -> io::Result<usize>
+    ensures { IfOk result (λ n. n ≤ length into.new) }
+{
+    let mut done = 0;
+    while done < into.len() {
+        let n = from.read(&mut into[done..])?;
+        if n == 0 {
+            break;
+        }
+        done += n;
+    }
+    Ok(done)
+}
+
+fn main(rt: HostRuntime) -> io::Result<()> {
     let mut input = [0u8; INPUT];
     let mut text = [0u8; TEXT];
-    let n = io::read_full(STDIN_FILENO, &mut input);
+    let n = read_full(&mut rt.reader(), &mut input)?;
     let r = report::report(&input[..n], &mut text);
-    io::write_all(STDOUT_FILENO, &text[..r.size]);
+    io::writer(&rt).write_all(&text[..r.size])
 }

@@ -6,7 +6,7 @@ ghost use Rattle.std.specs.Prelude.{◌≡◌, [], ◌∷◌, ℕ, ◌-◌, ◌�
 ghost use Rattle.model.specs.Strings.{Trits};
 ghost use Rattle.model.specs.Growth.{fold, Entries};
 ghost use Rattle.model.specs.Tables.{unmatched, take_away, change_side};
-ghost use Rattle.model.specs.Widest.{edges as edges-of, fresh, append_all, Complement};
+ghost use Rattle.model.specs.Widest.{edges as edges_of, fresh, append_all, Complement};
 ghost use Rattle.words.specs.Words.{word};
 ghost use Rattle.lists.specs.WorkingLists.{Holds, OfString, Within, Makes};
 ghost use Rattle.sides.specs.Parts.{matched, append_pieces};
@@ -41,7 +41,7 @@ fn take(list: &mut [u64; 256], n: usize, v: u64, taken: &mut [u64; 256]) -> usiz
 fn edge_row(list: &[u64; 256], n: usize, v: u64, row: &mut [u64; 256]) -> usize
     requires { n ≤ 256 }
     ensures few { result ≤ n }
-    ensures made { (l : ℕ) → OfString l list.now n v (λ τ t. Holds l row.new result (edges-of t τ)) }
+    ensures made { (l : ℕ) → OfString l list.now n v (λ τ t. Holds l row.new result (edges_of t τ)) }
 {
     // As a slice its length is known.
     let whole: &[u64] = &*row;
@@ -173,7 +173,7 @@ fn take_away(
 
 // Change of side: from one all-star entry, whose word is 0, each entry of the given list is taken away. `taken` and `edges`
 // are room.
-pub fn change_side(
+pub fn change_side_lent(
     t: &[u64; 256],
     tn: usize,
     l: u32,
@@ -202,4 +202,15 @@ pub fn change_side(
         i += 1;
     }
     Grown::Count(n)
+}
+
+// The same where no room is lent.
+pub fn change_side(t: &[u64; 256], tn: usize, l: u32, list: &mut [u64; 256]) -> Grown
+    requires { (tn ≤ 256) × (l ≤ 32) }
+    ensures within { Within result }
+    ensures made { (τ : Entries) → Holds l t.now tn τ → Makes l list.new result (change_side l τ) }
+{
+    let mut taken = [0u64; 256];
+    let mut edges = [0u64; 256];
+    change_side_lent(t, tn, l, list, &mut taken, &mut edges)
 }

@@ -4,7 +4,7 @@ ghost use Rattle.std.proofs.lemmas.List.Edits.{sets};
 ghost use Rattle.words.specs.Words.{string, trit_of};
 ghost use Rattle.tables.specs.Values.{entries_of, GoodTable};
 ghost use Rattle.text.specs.Text.{digit, decimal, line, entries_text};
-ghost use Rattle.text.specs.Text.{character as character-of};
+ghost use Rattle.text.specs.Text.{character as character_of};
 ghost use Rattle.text.specs.Printing.{Printed};
 
 use tables::Table;
@@ -89,7 +89,7 @@ pub fn write_line(out: &mut [u8], at: usize, v: &[u8], a: u32, w: &[u8], b: u32)
 
 // The character of a position, of its care and value bit.
 fn character(care: u32, value: u32) -> u8
-    ensures { result ≡ character-of (trit_of care value) }
+    ensures { result ≡ character_of (trit_of care value) }
 {
     if care == 0 {
         b'*'

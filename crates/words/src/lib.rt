@@ -4,16 +4,16 @@
 // model's operation.
 #![tactic(auto)]
 ghost use Rattle.std.specs.Prelude.{◌≡◌, ◌-◌, ◌^◌, ◌<◌, ◌≤◌, true, false, map, length, ◌==◌, bit_or, count_ones, nat_lt};
-ghost use Rattle.model.specs.Groups.{Bits, cut as cut-string};
-ghost use Rattle.model.specs.Strings.{Trits, subsumes as subsumes-string, matches as matches-string, meet as meet-string};
-ghost use Rattle.model.specs.Strings.{or_strings, all_zero, fixed as fixed-string, fixed_count, flipped as flipped-string};
-ghost use Rattle.model.specs.Strings.{flip, starred as starred-string, opposed as opposed-string};
-ghost use Rattle.model.specs.Stirring.{stirs as stirs-string};
+ghost use Rattle.model.specs.Groups.{Bits, cut as cut_string};
+ghost use Rattle.model.specs.Strings.{Trits, subsumes as subsumes_string, matches as matches_string, meet as meet_string};
+ghost use Rattle.model.specs.Strings.{or_strings, all_zero, fixed as fixed_string, fixed_count, flipped as flipped_string};
+ghost use Rattle.model.specs.Strings.{flip, starred as starred_string, opposed as opposed_string};
+ghost use Rattle.model.specs.Stirring.{stirs as stirs_string};
 ghost use Rattle.model.specs.Widest.{opposed_count};
-ghost use Rattle.words.specs.Words.{entry as entry-string, word as word-string, set_word, word_of, entry_of, fixed_word};
-ghost use Rattle.words.specs.Words.{care_of, subsumes_word, matches_word, or_word, zero_word, starless as starless-string};
+ghost use Rattle.words.specs.Words.{entry as entry_string, word as word_string, set_word, word_of, entry_of, fixed_word};
+ghost use Rattle.words.specs.Words.{care_of, subsumes_word, matches_word, or_word, zero_word, starless as starless_string};
 ghost use Rattle.words.specs.Words.{both as both_halves, flipped_word, starred_word, opposite_word, opposed_word, lacks_word};
-ghost use Rattle.words.specs.Words.{lone, near as near-string, openings as openings-string, openings_of, gather, cut_word};
+ghost use Rattle.words.specs.Words.{lone, near as near_string, openings as openings_string, openings_of, gather, cut_word};
 ghost use Rattle.words.specs.Words.{clash_word, shade_word, lone_lack, if_over};
 
 // A half has 32 bits: it is one of so many numbers.
@@ -33,7 +33,7 @@ pub struct Entry {
 // The word of the string with this care and value.
 pub fn word_of(e: Entry) -> u64
     ensures words { result ≡ word_of e }
-    ensures strings { (s : Trits) → e ≡ entry-string s → result ≡ word-string s }
+    ensures strings { (s : Trits) → e ≡ entry_string s → result ≡ word_string s }
 {
     let z = e.care ^ e.value;
     ((z as u64) << 32) | (e.value as u64)
@@ -42,7 +42,7 @@ pub fn word_of(e: Entry) -> u64
 // The care and value of the string with this word.
 pub fn entry_of(a: u64) -> Entry
     ensures words { result ≡ entry_of a }
-    ensures strings { (s : Trits) → length s ≤ 32 → a ≡ word-string s → result ≡ entry-string s }
+    ensures strings { (s : Trits) → length s ≤ 32 → a ≡ word_string s → result ≡ entry_string s }
 {
     let c = fixed(a);
     Entry {
@@ -55,7 +55,7 @@ pub fn entry_of(a: u64) -> Entry
 pub fn fixed(a: u64) -> u64
     ensures words { result ≡ fixed_word a }
     ensures below { result < 2 ^ 32 }
-    ensures strings { (s : Trits) → length s ≤ 32 → a ≡ word-string s → result ≡ care_of s }
+    ensures strings { (s : Trits) → length s ≤ 32 → a ≡ word_string s → result ≡ care_of s }
 {
     (a >> 32) | (a % HALF)
 }
@@ -63,8 +63,8 @@ pub fn fixed(a: u64) -> u64
 // Does a cover all that b covers?
 pub fn subsumes(a: u64, b: u64) -> bool
     ensures words { result ≡ subsumes_word a b }
-    ensures strings { (s t : Trits) → length s ≡ length t → length s ≤ 32 → a ≡ word-string s → b ≡ word-string t
-        → result ≡ subsumes-string s t }
+    ensures strings { (s t : Trits) → length s ≡ length t → length s ≤ 32 → a ≡ word_string s → b ≡ word_string t
+        → result ≡ subsumes_string s t }
 {
     ((a & b) ^ a) == 0
 }
@@ -72,7 +72,7 @@ pub fn subsumes(a: u64, b: u64) -> bool
 // Are a and b equal at each position, or is one `*`?
 pub fn matches(a: u64, b: u64) -> bool
     ensures words { result ≡ matches_word a b }
-    ensures strings { (s t : Trits) → length s ≡ length t → length s ≤ 32 → a ≡ word-string s → b ≡ word-string t → result ≡ matches-string s t }
+    ensures strings { (s t : Trits) → length s ≡ length t → length s ≤ 32 → a ≡ word_string s → b ≡ word_string t → result ≡ matches_string s t }
 {
     let m = a | b;
     ((m >> 32) & (m % HALF)) == 0
@@ -81,7 +81,7 @@ pub fn matches(a: u64, b: u64) -> bool
 // Are a and b opposed, one 0 and the other 1, at no more than one position?
 pub fn opposed_once(a: u64, b: u64) -> bool
     ensures words { result ≡ lone (clash_word a b) }
-    ensures strings { (s t : Trits) → length s ≡ length t → length s ≤ 32 → a ≡ word-string s → b ≡ word-string t
+    ensures strings { (s t : Trits) → length s ≡ length t → length s ≤ 32 → a ≡ word_string s → b ≡ word_string t
         → result ≡ nat_lt (opposed_count s t) 2 }
 {
     let m = a | b;
@@ -92,8 +92,8 @@ pub fn opposed_once(a: u64, b: u64) -> bool
 // The meet of strings that match.
 pub fn meet(a: u64, b: u64) -> u64
     ensures words { result ≡ bit_or a b }
-    ensures strings { (s t : Trits) → length s ≡ length t → length s ≤ 32 → a ≡ word-string s → b ≡ word-string t
-        → matches-string s t ≡ true → result ≡ word-string (meet-string s t) }
+    ensures strings { (s t : Trits) → length s ≡ length t → length s ≤ 32 → a ≡ word_string s → b ≡ word_string t
+        → matches_string s t ≡ true → result ≡ word_string (meet_string s t) }
 {
     a | b
 }
@@ -101,8 +101,8 @@ pub fn meet(a: u64, b: u64) -> u64
 // "a or b".
 pub fn or(a: u64, b: u64) -> u64
     ensures words { result ≡ or_word a b }
-    ensures strings { (s t : Trits) → length s ≡ length t → length s ≤ 32 → a ≡ word-string s → b ≡ word-string t
-        → result ≡ word-string (or_strings s t) }
+    ensures strings { (s t : Trits) → length s ≡ length t → length s ≤ 32 → a ≡ word_string s → b ≡ word_string t
+        → result ≡ word_string (or_strings s t) }
 {
     (((a >> 32) & (b >> 32)) << 32) | ((a | b) % HALF)
 }
@@ -111,7 +111,7 @@ pub fn or(a: u64, b: u64) -> u64
 pub fn zero(l: u32) -> u64
     requires { l ≤ 32 }
     ensures words { result ≡ zero_word l }
-    ensures strings { (s : Trits) → length s ≡ l → all_zero s ≡ true → result ≡ word-string s }
+    ensures strings { (s : Trits) → length s ≡ l → all_zero s ≡ true → result ≡ word_string s }
 {
     ((1u64 << l) - 1) << 32
 }
@@ -120,7 +120,7 @@ pub fn zero(l: u32) -> u64
 pub fn is_zero(l: u32, a: u64) -> bool
     requires { l ≤ 32 }
     ensures words { result ≡ (a == zero_word l) }
-    ensures strings { (s : Trits) → length s ≡ l → a ≡ word-string s → result ≡ all_zero s }
+    ensures strings { (s : Trits) → length s ≡ l → a ≡ word_string s → result ≡ all_zero s }
 {
     a == zero(l)
 }
@@ -129,7 +129,7 @@ pub fn is_zero(l: u32, a: u64) -> bool
 pub fn starless(l: u32, a: u64) -> bool
     requires { l ≤ 32 }
     ensures words { result ≡ (fixed_word a == 2 ^ l - 1) }
-    ensures strings { (s : Trits) → length s ≡ l → a ≡ word-string s → result ≡ starless-string s }
+    ensures strings { (s : Trits) → length s ≡ l → a ≡ word_string s → result ≡ starless_string s }
 {
     fixed(a) == (1u64 << l) - 1
 }
@@ -155,7 +155,7 @@ fn both(i: u32) -> u64
 pub fn flipped(a: u64, i: u32) -> u64
     requires { i < 32 }
     ensures words { result ≡ flipped_word i a }
-    ensures strings { (s : Trits) → length s ≤ 32 → a ≡ word-string s → fixed-string i s ≡ true → result ≡ word-string (flipped-string i s) }
+    ensures strings { (s : Trits) → length s ≤ 32 → a ≡ word_string s → fixed_string i s ≡ true → result ≡ word_string (flipped_string i s) }
 {
     a ^ both(i)
 }
@@ -164,7 +164,7 @@ pub fn flipped(a: u64, i: u32) -> u64
 pub fn starred(a: u64, i: u32) -> u64
     requires { i < 32 }
     ensures words { result ≡ starred_word i a }
-    ensures strings { (s : Trits) → length s ≤ 32 → a ≡ word-string s → result ≡ word-string (starred-string i s) }
+    ensures strings { (s : Trits) → length s ≤ 32 → a ≡ word_string s → result ≡ word_string (starred_string i s) }
 {
     a ^ (a & both(i))
 }
@@ -172,7 +172,7 @@ pub fn starred(a: u64, i: u32) -> u64
 // a with the value at each fixed position flipped.
 pub fn opposite(a: u64) -> u64
     ensures words { result ≡ opposite_word a }
-    ensures strings { (s : Trits) → length s ≤ 32 → a ≡ word-string s → result ≡ word-string (map flip s) }
+    ensures strings { (s : Trits) → length s ≤ 32 → a ≡ word_string s → result ≡ word_string (map flip s) }
 {
     ((a % HALF) << 32) | (a >> 32)
 }
@@ -181,8 +181,8 @@ pub fn opposite(a: u64) -> u64
 pub fn opposed(y: u64, v: u64, i: u32) -> u64
     requires { i < 32 }
     ensures words { result ≡ opposed_word i v y }
-    ensures strings { (s t : Trits) → length s ≡ length t → length s ≤ 32 → y ≡ word-string s → v ≡ word-string t
-        → fixed-string i s ≡ false → fixed-string i t ≡ true → result ≡ word-string (opposed-string i t s) }
+    ensures strings { (s t : Trits) → length s ≡ length t → length s ≤ 32 → y ≡ word_string s → v ≡ word_string t
+        → fixed_string i s ≡ false → fixed_string i t ≡ true → result ≡ word_string (opposed_string i t s) }
 {
     y | (opposite(v) & both(i))
 }
@@ -190,7 +190,7 @@ pub fn opposed(y: u64, v: u64, i: u32) -> u64
 // How many positions are fixed.
 pub fn fixed_count(a: u64) -> u32
     ensures words { result ≡ count_ones a }
-    ensures strings { (s : Trits) → length s ≤ 32 → a ≡ word-string s → result ≡ fixed_count s }
+    ensures strings { (s : Trits) → length s ≤ 32 → a ≡ word_string s → result ≡ fixed_count s }
 {
     u64::count_ones(a)
 }
@@ -198,7 +198,7 @@ pub fn fixed_count(a: u64) -> u32
 // Has y all that e has but for at most one position?
 pub fn near(e: u64, y: u64) -> bool
     ensures words { result ≡ lone (lacks_word e y) }
-    ensures strings { (s t : Trits) → length s ≡ length t → length s ≤ 32 → e ≡ word-string s → y ≡ word-string t → result ≡ near-string s t }
+    ensures strings { (s t : Trits) → length s ≡ length t → length s ≤ 32 → e ≡ word_string s → y ≡ word_string t → result ≡ near_string s t }
 {
     let w = (e & y) ^ e;
     (w & std::num::wrapping_sub_u64(w, 1)) == 0
@@ -208,8 +208,8 @@ pub fn near(e: u64, y: u64) -> bool
 // leaves open; where it lacks one position at which y is fixed, that one.
 pub fn openings(e: u64, y: u64) -> u64
     ensures words { result ≡ openings_of (lacks_word e y) e y }
-    ensures strings { (s t : Trits) → length s ≡ length t → length s ≤ 32 → e ≡ word-string s → y ≡ word-string t
-        → result ≡ set_word (openings-string s t) }
+    ensures strings { (s t : Trits) → length s ≡ length t → length s ≤ 32 → e ≡ word_string s → y ≡ word_string t
+        → result ≡ set_word (openings_string s t) }
 {
     let w = (e & y) ^ e;
     let care = fixed(y);
@@ -220,6 +220,15 @@ pub fn openings(e: u64, y: u64) -> u64
         return fixed(w) & care;
     }
     0
+}
+
+// The positions at which y is fixed and lacks what e has: what e opens of y, where it is near y and does not subsume it.
+pub fn edge(e: u64, y: u64) -> u64
+    ensures strings { (s t : Trits) → length s ≡ length t → length s ≤ 32 → e ≡ word_string s → y ≡ word_string t → near_string s t ≡ true
+        → subsumes_string s t ≡ false → result ≡ set_word (openings_string s t) }
+{
+    let w = (e & y) ^ e;
+    fixed(w) & fixed(y)
 }
 
 // The bit of e that y lacks, where it is one alone; else 0.
@@ -257,9 +266,9 @@ pub fn shade(e: u64, y: u64) -> u64
 pub fn shade_openings(shade: u64, y: u64, z: u64) -> u64
     ensures below { result < 2 ^ 32 }
     ensures strings { (e s t : Trits) → length e ≡ length s → length t ≡ length s → length s ≤ 32
-        → shade ≡ shade_word (word-string e) (word-string s) → y ≡ word-string s → z ≡ word-string t
-        → near-string e s ≡ true → subsumes-string t s ≡ true
-        → result ≡ set_word (openings-string e t) }
+        → shade ≡ shade_word (word_string e) (word_string s) → y ≡ word_string s → z ≡ word_string t
+        → near_string e s ≡ true → subsumes_string t s ≡ true
+        → result ≡ set_word (openings_string e t) }
 {
     let care = fixed(z);
     if ((shade >> 32) & (fixed(y) ^ care)) == 0 {
@@ -271,9 +280,9 @@ pub fn shade_openings(shade: u64, y: u64, z: u64) -> u64
 // Does that entry subsume z?
 pub fn shade_subsumes(shade: u64, y: u64, z: u64) -> bool
     ensures strings { (e s t : Trits) → length e ≡ length s → length t ≡ length s → length s ≤ 32
-        → shade ≡ shade_word (word-string e) (word-string s) → y ≡ word-string s → z ≡ word-string t
-        → near-string e s ≡ true → subsumes-string t s ≡ true
-        → result ≡ subsumes-string e t }
+        → shade ≡ shade_word (word_string e) (word_string s) → y ≡ word_string s → z ≡ word_string t
+        → near_string e s ≡ true → subsumes_string t s ≡ true
+        → result ≡ subsumes_string e t }
 {
     let opened = fixed(y) ^ fixed(z);
     ((shade >> 32) & (opened | (shade % HALF))) == 0
@@ -282,8 +291,8 @@ pub fn shade_subsumes(shade: u64, y: u64, z: u64) -> bool
 // Does e stir y, whose widening leaves the positions of `kept` fixed? It does where it opens one of these and fixes none of
 // the others below it.
 pub fn stirs(e: u64, y: u64, kept: u64) -> bool
-    ensures strings { (d s t : Trits) → length d ≡ length s → length s ≤ 32 → e ≡ word-string d → y ≡ word-string s → kept ≡ care_of t
-        → subsumes-string t s ≡ true → result ≡ stirs-string d s t }
+    ensures strings { (d s t : Trits) → length d ≡ length s → length s ≤ 32 → e ≡ word_string d → y ≡ word_string s → kept ≡ care_of t
+        → subsumes_string t s ≡ true → result ≡ stirs_string d s t }
 {
     let opens = openings(e, y) & kept;
     if opens == 0 {
@@ -314,8 +323,8 @@ fn gathered(keep: u32, w: u32) -> u32
 // a cut to the positions of keep, in rising order.
 pub fn cut(keep: u32, a: u64) -> u64
     ensures words { result ≡ cut_word keep a }
-    ensures strings { (k : Bits) (s : Trits) → length k ≡ length s → length s ≤ 32 → keep ≡ set_word k → a ≡ word-string s
-        → result ≡ word-string (cut-string k s) }
+    ensures strings { (k : Bits) (s : Trits) → length k ≡ length s → length s ≤ 32 → keep ≡ set_word k → a ≡ word_string s
+        → result ≡ word_string (cut_string k s) }
 {
     let z = gathered(keep, (a >> 32) as u32);
     let o = gathered(keep, (a % HALF) as u32);

@@ -21,7 +21,7 @@ returns-in-Absorbed c =
           let g = subst (Surveyed τ s) c.in-Absorbed.is (s-ensures _ τ s h e y) in
           absorbed_filter τ s (rw (guarded_idle τ s nonzero g) tt) k
           (c.note.ensures _ τ s s h.short f e y (c.fixed.ensures.strings s (rw e h.short) y) (subsumes_same s)
-          (inr (inr (refl, g))));
+          (inr (refl, g)));
     }
 
 pub returns-in-Stays : goal.returns-in-Stays
@@ -38,5 +38,5 @@ returns-in-Stays c =
           grown_filter τ s (untouched_new τ s nonzero u) k
           (rw stays
           (c.note-in-Stays.ensures _ _ s s h.short (c.next_version.ensures τ s f) e y
-          (c.fixed-in-Stays.ensures.strings s (rw e h.short) y) (subsumes_same s) (inr (inl (own_grown τ s s stays)))));
+          (c.fixed-in-Stays.ensures.strings s (rw e h.short) y) (subsumes_same s) (inl (inr (own_grown τ s s stays)))));
     }

@@ -10,18 +10,18 @@ use Rattle.procedures.specs.Parts.{having_set}
 use Rattle.candidates.proofs.Sets.{zeros_shl}
 use Rattle.procedures.proofs.equations.having.Goals as goal
 
-pub change_side-requires : goal.change_side-requires
-change_side-requires c =
+pub change_side_lent-requires : goal.change_side_lent-requires
+change_side_lent-requires c =
     (within_count c.grow.ensures.within c.in-Count.is, omega arith)
 
 pub returns-in-Count : goal.returns-in-Count
 unfolding having_set
 returns-in-Count c =
     let small = c.ranges.m.fits in record {
-      within = c.change_side.ensures.within;
+      within = c.change_side_lent.ensures.within;
       made = λ τ k h e is.
           makes_then (c.grow.ensures.made τ (zeros k) h (zeros_length k ∙ e) (zeros_shl k small is)) (change_side _)
-          c.in-Count.is c.change_side.ensures.made;
+          c.in-Count.is c.change_side_lent.ensures.made;
     }
 
 pub returns-in-Full : goal.returns-in-Full

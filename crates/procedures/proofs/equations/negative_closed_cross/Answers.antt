@@ -14,15 +14,15 @@ closed_cross-requires c = (
   omega arith,
 )
 
-pub change_side-requires : goal.change_side-requires
-change_side-requires c =
+pub change_side_lent-requires : goal.change_side_lent-requires
+change_side_lent-requires c =
     (within_count c.closed_cross.ensures.within c.in-Count-closed_cross.is, c.requires.1)
 
 pub returns-in-Count-closed_cross : goal.returns-in-Count-closed_cross
 unfolding negative_closed_cross
 returns-in-Count-closed_cross c =
     record {
-      within = c.change_side.ensures.within;
+      within = c.change_side_lent.ensures.within;
       made = λ τ x t h ex et ix it.
           makes_then (c.having.ensures.made τ x h ex ix)
           (λ A. having_set _ t τ >>= λ B. closed_cross A B >>= change_side _) c.in-Count.is
@@ -30,7 +30,7 @@ returns-in-Count-closed_cross c =
           makes_then (c.having-in-Count.ensures.made τ t h et it) (λ B. closed_cross A B >>= change_side _) c.in-Count-having.is
           (λ B q.
           makes_then (c.closed_cross.ensures.made A B p q) (change_side _) c.in-Count-closed_cross.is
-          c.change_side.ensures.made));
+          c.change_side_lent.ensures.made));
     }
 
 pub returns-in-Full-closed_cross : goal.returns-in-Full-closed_cross

@@ -10,23 +10,23 @@ use Rattle.procedures.proofs.projections.negative.Goals as goal
 
 pub positive-requires : goal.positive-requires
 positive-requires c =
-    within_count c.change_side.ensures.within c.in-Count.is
+    within_count c.change_side_lent.ensures.within c.in-Count.is
 
-pub change_side-requires-in-Count-positive : goal.change_side-requires-in-Count-positive
-change_side-requires-in-Count-positive c =
+pub change_side_lent-requires-in-Count-positive : goal.change_side_lent-requires-in-Count-positive
+change_side_lent-requires-in-Count-positive c =
     (within_count c.positive.ensures.within c.in-Count-positive.is, ones-le 32 _ c.ranges.keep.fits)
 
 pub returns-in-Count-positive : goal.returns-in-Count-positive
 unfolding projection
 returns-in-Count-positive c =
     record {
-      within = c.change_side-in-Count-positive.ensures.within;
+      within = c.change_side_lent-in-Count-positive.ensures.within;
       made = λ k τ h e is.
-          makes_then (c.change_side.ensures.made τ h) (λ P. positive_projection k P >>= change_side (kept k))
+          makes_then (c.change_side_lent.ensures.made τ h) (λ P. positive_projection k P >>= change_side (kept k))
           c.in-Count.is
           (λ P p.
           makes_then (c.positive.ensures.made k P (rw e p) is) (change_side (kept k)) c.in-Count-positive.is
-          (λ C q. rw (ap ones is ∙ kept_ones k) at c.change_side-in-Count-positive.ensures.made C q));
+          (λ C q. rw (ap ones is ∙ kept_ones k) at c.change_side_lent-in-Count-positive.ensures.made C q));
     }
 
 pub returns-in-Full-positive : goal.returns-in-Full-positive
@@ -35,7 +35,7 @@ returns-in-Full-positive c =
     record {
       within = tt;
       made = λ k τ h e is.
-          makes_then (c.change_side.ensures.made τ h) (λ P. positive_projection k P >>= change_side (kept k))
+          makes_then (c.change_side_lent.ensures.made τ h) (λ P. positive_projection k P >>= change_side (kept k))
           c.in-Count.is
           (λ P p.
           stops_then (c.positive.ensures.made k P (rw e p) is) (change_side (kept k)) c.in-Full-positive.is);
@@ -47,6 +47,6 @@ returns-in-Full c =
     record {
       within = tt;
       made = λ k τ h e is.
-          stops_then (c.change_side.ensures.made τ h) (λ P. positive_projection k P >>= change_side (kept k))
+          stops_then (c.change_side_lent.ensures.made τ h) (λ P. positive_projection k P >>= change_side (kept k))
           c.in-Full.is;
     }

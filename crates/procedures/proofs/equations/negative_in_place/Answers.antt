@@ -12,7 +12,7 @@ use Rattle.lists.proofs.Holding.{within_count}
 use Rattle.lists.proofs.BindLaws.{makes_then, stops_then}
 use Rattle.candidates.specs.Pairs.{pairs_of}
 use Rattle.procedures.proofs.EquationsRegrouped.{negative_regrouped}
-use Rattle.procedures.proofs.equations.negative.Goals as goal
+use Rattle.procedures.proofs.equations.negative_in_place.Goals as goal
 
 pub pairs-requires : goal.pairs-requires
 pairs-requires c = (

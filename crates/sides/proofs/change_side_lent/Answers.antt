@@ -10,7 +10,7 @@ use Rattle.lists.proofs.SoFar.{so_far_start, so_far_step, so_far_stop, so_far_en
 use Rattle.words.proofs.Words.{stars_word}
 use Rattle.sides.proofs.MatchedEntries.{some_start, some_next}
 use borrow.Author.Rules.{rules}
-use Rattle.sides.proofs.change_side.Goals as goal
+use Rattle.sides.proofs.change_side_lent.Goals as goal
 
 pub loop-i-init : goal.loop-i-init
 unfolding change_side

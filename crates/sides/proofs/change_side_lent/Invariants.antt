@@ -5,7 +5,7 @@ use Rattle.model.specs.Tables.{take_away, change_side}
 use Rattle.lists.specs.WorkingLists.{Holds}
 use Rattle.lists.proofs.SoFar.{SoFar}
 use Rattle.sides.proofs.MatchedEntries.{SomeComplement}
-use Rattle.sides.proofs.change_side.Given as goal
+use Rattle.sides.proofs.change_side_lent.Given as goal
 
 abbrev pub invariant-loop-i : goal.invariant-loop-i
 invariant-loop-i l = (l.i ≤ l.tn) × (l.n ≤ 256)

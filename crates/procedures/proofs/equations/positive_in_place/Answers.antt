@@ -9,7 +9,7 @@ use Rattle.lists.proofs.Holding.{within_count}
 use Rattle.lists.proofs.BindLaws.{makes_then, stops_then}
 use Rattle.procedures.specs.Parts.{positive_closed_cross}
 use Rattle.procedures.proofs.EquationsRegrouped.{positive_regrouped}
-use Rattle.procedures.proofs.equations.positive.Goals as goal
+use Rattle.procedures.proofs.equations.positive_in_place.Goals as goal
 
 pub grow_each-requires : goal.grow_each-requires
 grow_each-requires c = (
