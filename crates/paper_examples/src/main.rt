@@ -11,11 +11,12 @@
 // - Steps (ii) and (iii) of Example 4.4 are misprinted: the complement of {110*, 101*} is {0***, 100*, 111*}, and that of
 //   its closure {0***, 100*}. The result (v) is right: it has the groups of Example 3.8, which starts from the same groups.
 #![tactic(auto)]
+
 ghost use Rattle.std.specs.Prelude.{◌≡◌, ◌+◌, ◌≤◌, ◌<◌, length};
 
-use libc::STDOUT_FILENO;
 use operations::Side;
 use questions::Reply;
+use std::io;
 use tables::{Answer, Answered, Refusal, Table};
 use words::Entry;
 
@@ -144,35 +145,35 @@ fn digits(l: u32, k: u32) -> [u8; 16]
 // ---- Printing
 
 // Writes to standard output.
-fn write(s: &[u8]) {
-    io::write_all(STDOUT_FILENO, s);
+fn write(rt: &impl Print, s: &[u8]) -> io::Result<()> {
+    rt.write_all(s)
 }
 
 // Writes the first n bytes.
-fn write_front(s: &[u8], n: usize)
+fn write_front(rt: &impl Print, s: &[u8], n: usize) -> io::Result<()>
     requires { n ≤ length s.now }
 {
-    write(&s[..n]);
+    write(rt, &s[..n])
 }
 
 // Writes a refusal's number.
-fn write_refusal(r: Refusal) {
-    write(b"refused ");
-    io::print_decimal(STDOUT_FILENO, tables::refusal_number(r) as u64);
+fn write_refusal(rt: &impl Print, r: Refusal) -> io::Result<()> {
+    write(rt, b"refused ")?;
+    rt.print(tables::refusal_number(r) as u64)
 }
 
 // Writes a set as the paper prints it, with its side where that is negative.
-fn write_set(side: Side, text: &[u8]) {
+fn write_set(rt: &impl Print, side: Side, text: &[u8]) -> io::Result<()> {
     match side {
-        Side::Positive => write(b"{"),
-        Side::Negative => write(b"negative {"),
+        Side::Positive => write(rt, b"{")?,
+        Side::Negative => write(rt, b"negative {")?,
     }
-    write(text);
-    write(b"}");
+    write(rt, text)?;
+    write(rt, b"}")
 }
 
 // Writes the string of the l binary digits of k if it is one of the table's groups.
-fn write_group(side: Side, l: u32, t: Table, k: u32)
+fn write_group(rt: &impl Print, side: Side, l: u32, t: Table, k: u32) -> io::Result<()>
     requires { l ≤ 16 }
 {
     let space = digits(l, k);
@@ -180,67 +181,68 @@ fn write_group(side: Side, l: u32, t: Table, k: u32)
     let g = read_string(text, 0, l);
     match stands_for(side, t, g.value) {
         Reply::Yes => {
-            write(b" ");
-            write_front(text, l as usize);
+            write(rt, b" ")?;
+            write_front(rt, text, l as usize)
         }
-        Reply::No => {}
+        Reply::No => Ok(()),
         Reply::Refused(r) => {
-            write(b" ");
-            write_refusal(r);
+            write(rt, b" ")?;
+            write_refusal(rt, r)
         }
     }
 }
 
 // Writes all groups of the table, in rising order of their strings.
-fn write_groups(side: Side, l: u32, t: Table)
+fn write_groups(rt: &impl Print, side: Side, l: u32, t: Table) -> io::Result<()>
     requires { l ≤ 16 }
 {
-    write(b"groups");
+    write(rt, b"groups")?;
     let end = 1u32 << l;
     let mut k = 1u32;
     while k < end {
-        write_group(side, l, t, k);
+        write_group(rt, side, l, t, k)?;
         k += 1;
     }
+    Ok(())
 }
 
 // Writes whether two tables of one side are equal in groups.
-fn write_comparison(t: Table, u: Table) {
+fn write_comparison(rt: &impl Print, t: Table, u: Table) -> io::Result<()> {
     match questions::equal(t, u) {
-        Reply::Yes => write(b" : as in the paper, "),
-        Reply::No => write(b" : not as in the paper, "),
+        Reply::Yes => write(rt, b" : as in the paper, "),
+        Reply::No => write(rt, b" : not as in the paper, "),
         Reply::Refused(r) => {
-            write(b" : ");
-            write_refusal(r);
-            write(b" beside the paper's ");
+            write(rt, b" : ")?;
+            write_refusal(rt, r)?;
+            write(rt, b" beside the paper's ")
         }
     }
 }
 
 // Writes the groups of what was computed, and whether they are those of the set that the paper prints.
-fn compare(side: Side, l: u32, computed: Answered, paper: &[u8])
+fn compare(rt: &impl Print, side: Side, l: u32, computed: Answered, paper: &[u8]) -> io::Result<()>
     requires { (0 < l) × (l ≤ 16) × (length paper.now ≤ 254) }
 {
     let answer = computed.answer;
     let t = computed.table;
     match answer {
-        Answer::Refused(r) => write_refusal(r),
+        Answer::Refused(r) => write_refusal(rt, r)?,
         Answer::Accepted => {
-            write_groups(side, l, t);
-            write_comparison(t, read_table(l, paper));
-            write_set(side, paper);
+            write_groups(rt, side, l, t)?;
+            write_comparison(rt, t, read_table(l, paper))?;
+            write_set(rt, side, paper)?;
         }
     }
-    write(b"\n");
+    write(rt, b"\n")
 }
 
 // Writes what is computed: the example, the set that it starts from, and what is done with it.
-fn heading(name: &[u8], side: Side, given: &[u8], done: &[u8]) {
-    write(name);
-    write(b": ");
-    write_set(side, given);
-    write(done);
-    write(b"\n");
+fn heading(rt: &impl Print, name: &[u8], side: Side, given: &[u8], done: &[u8]) -> io::Result<()> {
+    write(rt, name)?;
+    write(rt, b": ")?;
+    write_set(rt, side, given)?;
+    write(rt, done)?;
+    write(rt, b"\n")
 }
 
 // ---- The examples
@@ -256,164 +258,204 @@ fn projected(side: Side, t: Table) -> Answered {
 }
 
 // Binary abstract unification.
-fn example_2_6() {
+fn example_2_6(rt: &impl Print) -> io::Result<()> {
     let given = b"1000, 0100, 0010, 0001";
-    heading(b"Example 2.6", Side::Positive, given, b", X1 = f(X2, X3)");
+    heading(
+        rt,
+        b"Example 2.6",
+        Side::Positive,
+        given,
+        b", X1 = f(X2, X3)",
+    )?;
     let start = converted(4, given);
     let t = start.table;
     compare(
+        rt,
         Side::Positive,
         4,
         equated(Side::Positive, t),
         b"0001, 1100, 1010, 1110",
-    );
+    )
 }
 
 // Conversion of groups to a positive table.
-fn example_3_4() {
+fn example_3_4(rt: &impl Print) -> io::Result<()> {
     let given = b"1000, 1001, 0100, 0101, 0010, 0001";
-    heading(b"Example 3.4", Side::Positive, given, b" converted");
+    heading(rt, b"Example 3.4", Side::Positive, given, b" converted")?;
     compare(
+        rt,
         Side::Positive,
         4,
         converted(4, given),
         b"100*, 0010, 010*, *001",
-    );
+    )
 }
 
 // Positive abstract unification.
-fn example_3_8() {
+fn example_3_8(rt: &impl Print) -> io::Result<()> {
     let given = b"100*, 010*, 0010, *001";
-    heading(b"Example 3.8", Side::Positive, given, b", X1 = f(X2, X3)");
+    heading(
+        rt,
+        b"Example 3.8",
+        Side::Positive,
+        given,
+        b", X1 = f(X2, X3)",
+    )?;
     let t = read_table(4, given);
     compare(
+        rt,
         Side::Positive,
         4,
         equated(Side::Positive, t),
         b"0001, 110*, 101*, 111*",
-    );
+    )
 }
 
 // Positive projection. The entry *001 is cut to *00, which also covers the all-zero string.
-fn after_example_3_8() {
+fn after_example_3_8(rt: &impl Print) -> io::Result<()> {
     let given = b"100*, 010*, 0010, *001";
     heading(
+        rt,
         b"After Example 3.8",
         Side::Positive,
         given,
         b" projected onto X1, X2, X3",
-    );
+    )?;
     let t = read_table(4, given);
     compare(
+        rt,
         Side::Positive,
         3,
         projected(Side::Positive, t),
         b"100, 010, 001",
-    );
+    )
 }
 
 // Conversion of groups to a negative table, by way of the positive one.
-fn example_4_1() {
+fn example_4_1(rt: &impl Print) -> io::Result<()> {
     let given = b"1000, 1001, 0100, 0010, 0101, 0001";
     heading(
+        rt,
         b"Example 4.1",
         Side::Positive,
         given,
         b" converted, then changed to negative",
-    );
+    )?;
     let start = converted(4, given);
     let t = start.table;
     let computed = operations::change_side(Side::Positive, t);
-    compare(Side::Negative, 4, computed, b"11**, 1*1*, *11*, **11");
+    compare(rt, Side::Negative, 4, computed, b"11**, 1*1*, *11*, **11")
 }
 
 // A set of three groups, as a positive and as a negative table.
-fn after_example_4_1() {
+fn after_example_4_1(rt: &impl Print) -> io::Result<()> {
     let given = b"1000, 1100, 1110";
-    heading(b"After Example 4.1", Side::Positive, given, b" converted");
+    heading(
+        rt,
+        b"After Example 4.1",
+        Side::Positive,
+        given,
+        b" converted",
+    )?;
     let start = converted(4, given);
     let t = start.table;
-    compare(Side::Positive, 4, start, b"1*00, 1110");
+    compare(rt, Side::Positive, 4, start, b"1*00, 1110")?;
     heading(
+        rt,
         b"After Example 4.1",
         Side::Positive,
         given,
         b" converted, then changed to negative",
-    );
+    )?;
     let computed = operations::change_side(Side::Positive, t);
     compare(
+        rt,
         Side::Negative,
         4,
         computed,
         b"00**, 01**, 0*1*, 0**1, 1**1, *01*",
-    );
+    )
 }
 
 // The paper says that 1001 satisfies the formula of the set of Example 4.1. Then it is one of the groups, and the join
 // with it changes none.
-fn after_definition_4_2() {
+fn after_definition_4_2(rt: &impl Print) -> io::Result<()> {
     let given = b"11**, 1*1*, *11*, **11";
     heading(
+        rt,
         b"After Definition 4.2",
         Side::Negative,
         given,
         b" joined with 1001, which satisfies its formula",
-    );
+    )?;
     let t = read_table(4, given);
     let one = converted(4, b"1001");
     let alone = one.table;
     let other = operations::change_side(Side::Positive, alone);
     let u = other.table;
     compare(
+        rt,
         Side::Negative,
         4,
         operations::join(Side::Negative, t, u),
         given,
-    );
+    )
 }
 
 // Negative abstract unification. The groups are also compared with those of Example 3.8, which starts from the same groups.
-fn example_4_4() {
+fn example_4_4(rt: &impl Print) -> io::Result<()> {
     let given = b"11**, 1*1*, *11*, **11";
-    heading(b"Example 4.4", Side::Negative, given, b", X1 = f(X2, X3)");
+    heading(
+        rt,
+        b"Example 4.4",
+        Side::Negative,
+        given,
+        b", X1 = f(X2, X3)",
+    )?;
     let computed = equated(Side::Negative, read_table(4, given));
     let t = computed.table;
-    compare(Side::Negative, 4, computed, b"01**, 0*1*, 0**0, 100*");
-    write(b"Example 4.4 changed to positive, beside the result of Example 3.8\n");
+    compare(rt, Side::Negative, 4, computed, b"01**, 0*1*, 0**0, 100*")?;
+    write(
+        rt,
+        b"Example 4.4 changed to positive, beside the result of Example 3.8\n",
+    )?;
     compare(
+        rt,
         Side::Positive,
         4,
         operations::change_side(Side::Negative, t),
         b"0001, 110*, 101*, 111*",
-    );
+    )
 }
 
 // Negative projection.
-fn example_4_6() {
+fn example_4_6(rt: &impl Print) -> io::Result<()> {
     let given = b"11**, 1*1*, *11*, **11";
     heading(
+        rt,
         b"Example 4.6",
         Side::Negative,
         given,
         b" projected onto X1, X2, X3",
-    );
+    )?;
     let t = read_table(4, given);
     compare(
+        rt,
         Side::Negative,
         3,
         projected(Side::Negative, t),
         b"11*, 1*1, *11",
-    );
+    )
 }
 
-fn main() {
-    example_2_6();
-    example_3_4();
-    example_3_8();
-    after_example_3_8();
-    example_4_1();
-    after_example_4_1();
-    after_definition_4_2();
-    example_4_4();
-    example_4_6();
+fn main(rt: HostRuntime) -> io::Result<()> {
+    example_2_6(&rt)?;
+    example_3_4(&rt)?;
+    example_3_8(&rt)?;
+    after_example_3_8(&rt)?;
+    example_4_1(&rt)?;
+    after_example_4_1(&rt)?;
+    after_definition_4_2(&rt)?;
+    example_4_4(&rt)?;
+    example_4_6(&rt)
 }
