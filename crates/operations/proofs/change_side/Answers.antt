@@ -14,11 +14,11 @@ checked c = c.check.ensures.good.0 c.in-Accepted.is
 pub load-requires : goal.load-requires
 load-requires c = good_few (checked (goal.at.load-requires c).In-Accepted)
 
-pub change_side-g-requires : goal.change_side-g-requires
-change_side-g-requires c = let g = checked (goal.at.change_side-g-requires c).In-Accepted in (good_few g, good_wide g)
+pub change_side_lent-g-requires : goal.change_side_lent-g-requires
+change_side_lent-g-requires c = let g = checked (goal.at.change_side_lent-g-requires c).In-Accepted in (good_few g, good_wide g)
 
 pub made_or_full-requires : goal.made_or_full-requires
-made_or_full-requires c = c.change_side-g.ensures.within
+made_or_full-requires c = c.change_side_lent-g.ensures.within
 
 pub returns-in-Refused : goal.returns-in-Refused
 unfolding change_side_call if_accepted
@@ -29,4 +29,4 @@ pub returns-in-Accepted : goal.returns-in-Accepted
 unfolding change_side_call if_accepted
 returns-in-Accepted c =
     rw (sym c.check.ensures.answer ∙ c.in-Accepted.is)
-    (c.made_or_full.ensures _ (c.change_side-g.ensures.made _ (good_list (checked (goal.at.returns-in-Accepted c).In-Accepted) c.load.ensures)))
+    (c.made_or_full.ensures _ (c.change_side_lent-g.ensures.made _ (good_list (checked (goal.at.returns-in-Accepted c).In-Accepted) c.load.ensures)))
