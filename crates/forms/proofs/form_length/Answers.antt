@@ -20,16 +20,19 @@ pub overflow_mul-result : goal.overflow_mul-result
 overflow_mul-result c = let m = most_words (goal.at.overflow_mul-result c).After-word_length in search (rules, m)
 
 pub overflow_mul-result-in-Plain : goal.overflow_mul-result-in-Plain
-overflow_mul-result-in-Plain c = let m = most_words (goal.at.overflow_mul-result-in-Plain c).After-word_length in search (rules, m)
+overflow_mul-result-in-Plain c =
+    let m = most_words (goal.at.overflow_mul-result-in-Plain c).After-word_length in search (rules, m)
 
 pub overflow_add-result : goal.overflow_add-result
 overflow_add-result c = let m = most_words (goal.at.overflow_add-result c).After-word_length in search (rules, m)
 
 pub overflow_mul-result-in-Packed : goal.overflow_mul-result-in-Packed
-overflow_mul-result-in-Packed c = let m = most (goal.at.overflow_mul-result-in-Packed c).After-row_length in search (rules, m)
+overflow_mul-result-in-Packed c =
+    let m = most (goal.at.overflow_mul-result-in-Packed c).After-row_length in search (rules, m)
 
 pub overflow_add-result-in-Packed : goal.overflow_add-result-in-Packed
-overflow_add-result-in-Packed c = let m = most (goal.at.overflow_add-result-in-Packed c).After-row_length in search (rules, m)
+overflow_add-result-in-Packed c =
+    let m = most (goal.at.overflow_add-result-in-Packed c).After-row_length in search (rules, m)
 
 pub returns-in-Plain : goal.returns-in-Plain
 returns-in-Plain c = rw (c.in-Plain.is, c.word_length.ensures)
