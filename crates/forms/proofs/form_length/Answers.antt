@@ -9,7 +9,7 @@ use Rattle.forms.proofs.form_length.Goals.{After-row_length, After-word_length}
 -- no more than 256 words of four bytes
 most_words : (c : After-word_length) → c.word_length.result * c.args.n ≤ 1024
 most_words c =
-    words_most c.args.l c.word_length.ensures c.requires.1
+    words_most _ c.word_length.ensures c.requires.1
 
 -- no more than 256 rows of seven bytes
 most : (c : After-row_length) → c.row_length.result * c.args.n ≤ 1792
