@@ -1,5 +1,6 @@
 // The two written forms of equations: a place among them, and their checks. Inner: not a public call.
 #![tactic(auto)]
+
 ghost use Rattle.std.specs.Prelude.{◌≡◌, true, false, ◌≤◌, length};
 ghost use Rattle.terms.specs.Checks.{check_written, check_answer};
 ghost use Rattle.equation_forms.specs.EquationForms.{GoodSizes, On, start, Here, Past, left_at, count_at, span_at, tokens_at};

@@ -16,7 +16,6 @@ use Rattle.lists.specs.WorkingLists.{Holds, Makes}
 use Rattle.lists.proofs.Holding.{makes_count, makes_full}
 use Rattle.forms.specs.declared.Layout.{Layout}
 use Rattle.forms.specs.declared.Listed.{Listed}
-use Rattle.forms.specs.declared.Listed.TheVariants as Listed
 use Rattle.forms.specs.TableForms.{written_entries, all_well, bad_entry, read_entries}
 use Rattle.forms.specs.Listings.{Reads, unread, listed}
 

@@ -1,6 +1,7 @@
 // The written forms of tables: words of 16 or 32 bits, low byte first, and packed rows. Public are `read_table`,
 // `read_packed`, `write_table` and `write_packed`, from bytes to a table value and back. The rest is inner: not a public call.
 #![tactic(auto)]
+
 pub mod entries; // the entries of a table in a form, plain or packed
 
 ghost use Rattle.std.specs.Prelude.{◌≡◌, true, ◌≤◌, length};

@@ -3,39 +3,25 @@ use mathlib.Core.Path.{◌≡◌, sym, ap, ◌∙◌}
 use mathlib.Core.Bool.{true}
 use Prim.Native.Nat.{ℕ}
 use native.Mathlib.Omega.{arith}
-use borrow.Author.Tests.{not-true, not-false}
 use lib.ListN.{length}
 use Rattle.tables.specs.Values.{good_width}
 use Rattle.tables.proofs.Checking.{width_most}
 use Rattle.forms.specs.TableForms.{form_length, fits}
 use Rattle.forms.proofs.Outcomes.{read_unsized, read_width, read_many, read_torn, read_all, fits_room}
 use Rattle.forms.proofs.Listing.{refused_reads, same_reads}
-use borrow.Author.Rules.{rules}
 use Rattle.forms.proofs.read_list.Goals as goal
-use Rattle.forms.proofs.read_list.Goals.{After-fits, After-good_width, Else-not-good_width}
-
--- the that.before.before.before were read
-abbrev l_read : After-good_width → ℕ
-l_read c = c.number_at-l.result
-
-abbrev n_read : After-good_width → ℕ
-n_read c = c.number_at-n.result
+use Rattle.forms.proofs.read_list.Goals.{After-fits, Else-not-good_width}
 
 -- the width is good, where it was not refused
-wide : (c : Else-not-good_width) → good_width (l_read c.before) ≡ true
+wide : (c : Else-not-good_width) → good_width c.number_at-l.result ≡ true
 wide c = sym c.good_width.ensures ∙ c.if-not-good_width.false
 
 -- where the length is tried, the test as the definition has it
-fitting : (c : tie.After-fits2)
-    → let at_good_width = c.before.before.before.before in
-    let a = at_good_width.before.before.before.before.before.args in
-    fits a.extent (form_length a.layout (l_read at_good_width) (n_read at_good_width)) (length a.b.now)
-    ≡ c.fits2.result
+fitting : (c : After-fits) → let a = c.args in
+    fits a.extent (form_length a.layout c.number_at-l.result c.number_at-n.result) (length a.b.now) ≡ c.fits.result
 fitting c =
-    let at_form_length = c.before in
-    let a = at_form_length.before.before.before.before.before.before.before.before.args in
-    ap (λ (k : ℕ). fits a.extent k (length a.b.now)) (sym at_form_length.form-length.ensures)
-    ∙ sym c.fits2.ensures
+    let a = c.args in
+    ap (λ (k : ℕ). fits a.extent k (length a.b.now)) (sym c.form_length.ensures) ∙ sym c.fits.ensures
 
 pub returns-then-b-lt4 : goal.returns-then-b-lt4
 returns-then-b-lt4 c =
@@ -53,16 +39,20 @@ pub returns-then-n-gt-ENTRIES : goal.returns-then-n-gt-ENTRIES
 returns-then-n-gt-ENTRIES c =
     let a = c.args in
     refused_reads (read_many a.layout a.extent a.b.now _ _ c.number_at-l.ensures
-    c.number_at-n.ensures c.if-b-lt4.false (wide (goal.at.returns-then-n-gt-ENTRIES c).Else-not-good_width) c.if-n-gt-ENTRIES.true)
+    c.number_at-n.ensures c.if-b-lt4.false
+    (wide (goal.at.returns-then-n-gt-ENTRIES c).Else-not-good_width) c.if-n-gt-ENTRIES.true)
 
 pub form_length-requires : goal.form_length-requires
-form_length-requires c = (omega (arith, width_most _ (wide (goal.at.form_length-requires c).Else-not-good_width)), c.if-n-gt-ENTRIES.false)
+form_length-requires c =
+    let w = wide (goal.at.form_length-requires c).Else-not-good_width in
+    (omega (arith, width_most _ w), c.if-n-gt-ENTRIES.false)
 
 pub returns-then-not-fits : goal.returns-then-not-fits
 returns-then-not-fits c =
     let a = c.args in
     refused_reads (read_torn a.layout a.extent a.b.now _ _ c.number_at-l.ensures
-    c.number_at-n.ensures c.if-b-lt4.false (wide (goal.at.returns-then-not-fits c).Else-not-good_width) c.if-n-gt-ENTRIES.false
+    c.number_at-n.ensures c.if-b-lt4.false (wide (goal.at.returns-then-not-fits c).Else-not-good_width)
+    c.if-n-gt-ENTRIES.false
     (fitting (goal.at.returns-then-not-fits c).After-fits ∙ c.if-not-fits.true))
 
 pub read-requires : goal.read-requires

@@ -5,18 +5,17 @@ use Rattle.tables.specs.Values.{entries_of, GoodTable}
 use Rattle.tables.proofs.Checking.{good_few, good_holds, width_most}
 use Rattle.lists.specs.WorkingLists.{Holds}
 use Rattle.forms.proofs.Outcomes.{write_refused}
-use borrow.Author.Rules.{rules}
 use Rattle.forms.proofs.write.Goals as goal
 use Rattle.forms.proofs.write.Goals.{After-load, In-Accepted}
 
--- so it is good
+-- the table, where it was accepted, is good
 good : (c : In-Accepted) → GoodTable c.args.t
 good c = c.check.ensures.good.0 c.in-Accepted.is
 
-held : (c : After-load) → let t = c.args.t in
-    Holds t.l c.load.new.list t.n (entries_of t)
+-- and what the list that is loaded from it holds
+held : (c : After-load) → let t = c.args.t in Holds t.l c.load.new.list t.n (entries_of t)
 held c =
-    let g = good c.before.before.before.before.before in
+    let g = c.check.ensures.good.0 c.in-Accepted.is in
     c.load.ensures _ _ (omega (arith, width_most _ g.width)) (good_holds g)
 
 pub load-requires : goal.load-requires
@@ -29,9 +28,11 @@ write_list-requires c =
 pub returns-in-Refused : goal.returns-in-Refused
 returns-in-Refused c =
     let a = c.args in
-    write_refused a.layout a.t2 a.out.now (sym c.check.ensures.answer ∙ c.in-Refused.is)
+    let w = write_refused a.layout a.t a.out.now (sym c.check.ensures.answer ∙ c.in-Refused.is) in
+    record { answer = w.0; bytes = w.1 }
 
 pub returns-in-Accepted : goal.returns-in-Accepted
 returns-in-Accepted c =
     let w = c.write_list.ensures _ (held (goal.at.returns-in-Accepted c).After-load) in
-    rw (good (goal.at.returns-in-Accepted c).In-Accepted).same w
+    let same = (good (goal.at.returns-in-Accepted c).In-Accepted).same in
+    record { answer = rw same w.0; bytes = rw same w.1 }

@@ -6,7 +6,6 @@ use Rattle.tables.proofs.Checking.{width_most}
 use Rattle.forms.specs.TableForms.{form_length}
 use Rattle.forms.proofs.Outcomes.{form_sizes}
 use Rattle.forms.proofs.Writing.{list_narrow, list_fits}
-use borrow.Author.Rules.{rules}
 use Rattle.forms.proofs.write_list.Goals as goal
 use Rattle.forms.proofs.write_list.Goals.{Else-out-form_length, Start}
 
@@ -39,16 +38,15 @@ write_number-requires-2 c =
     omega (arith, sizes_in (goal.at.write_number-requires-2 c).Else-out-form_length, c.write_number.auto.b)
 
 pub write-requires : goal.write-requires
-write-requires c =
-    (
-      c.requires.1,
-      omega (
-        arith,
-        fits_in (goal.at.write-requires c).Else-out-form_length,
-        c.write_number.auto.b,
-        c.write_number-2.auto.b,
-      ),
-    )
+write-requires c = (
+  c.requires.1,
+  omega (
+    arith,
+    fits_in (goal.at.write-requires c).Else-out-form_length,
+    c.write_number.auto.b,
+    c.write_number-2.auto.b,
+  ),
+)
 
 pub returns : goal.returns
 returns c =

@@ -36,10 +36,14 @@ pub overflow_add-at : goal.overflow_add-at
 overflow_add-at c = let w = within (goal.at.overflow_add-at c).After-word_length-k in search (rules, w)
 
 pub word_at-c-requires : goal.word_at-c-requires
-word_at-c-requires c = let w = within (goal.at.word_at-c-requires c).After-word_length-k in (sized (goal.at.word_at-c-requires c).After-word_length-k, omega (arith, w))
+word_at-c-requires c =
+    let w = within (goal.at.word_at-c-requires c).After-word_length-k in
+    (sized (goal.at.word_at-c-requires c).After-word_length-k, omega (arith, w))
 
 pub word_at-v-requires : goal.word_at-v-requires
-word_at-v-requires c = let w = within (goal.at.word_at-v-requires c).After-word_length-k in (sized (goal.at.word_at-v-requires c).After-word_length-k, omega (arith, w))
+word_at-v-requires c =
+    let w = within (goal.at.word_at-v-requires c).After-word_length-k in
+    (sized (goal.at.word_at-v-requires c).After-word_length-k, omega (arith, w))
 
 pub returns : goal.returns
 returns c =

@@ -34,19 +34,18 @@ made c =
 
 pub loop-i-init : goal.loop-i-init
 unfolding grow_all
-loop-i-init c =
-    (
-      omega arith,
-      omega arith,
-      so_far_start (holds_empty _ _ (search rules) c.requires.0) refl tt,
-    )
+loop-i-init c = (
+  omega arith,
+  omega arith,
+  so_far_start (holds_empty _ _ (search rules) c.requires.0) refl tt,
+)
 
 pub returns-in-Full : goal.returns-in-Full
 returns-in-Full c =
     let lp = c.loop-i in
     let a = c.args in
-    so_far_stop lp.invariant.2 [] (omega (arith, plain_count a.l a.n a.b.now)) (made (goal.at.returns-in-Full c).After-grow)
-    c.in-Full.is
+    so_far_stop lp.invariant.2 [] (omega (arith, plain_count a.l a.n a.b.now))
+    (made (goal.at.returns-in-Full c).After-grow) c.in-Full.is
 
 pub loop-i-preserved : goal.loop-i-preserved
 loop-i-preserved c =
@@ -55,7 +54,8 @@ loop-i-preserved c =
     let is = c.in-Count.is in (
       omega arith,
       within_count c.grow.ensures.within is,
-      so_far_step lp.invariant.2 [] (omega (arith, plain_count a.l a.n a.b.now)) (made (goal.at.loop-i-preserved c).After-grow) is (λ κ g. tt),
+      so_far_step lp.invariant.2 [] (omega (arith, plain_count a.l a.n a.b.now))
+          (made (goal.at.loop-i-preserved c).After-grow) is (λ κ g. tt),
     )
 
 pub returns : goal.returns

@@ -1,5 +1,4 @@
 -- Each layout is its own reader.
-use borrow.Author.Rules.{rules}
 use Rattle.forms.proofs.entries.read.Goals as goal
 
 pub read_plain-requires : goal.read_plain-requires

@@ -3,7 +3,6 @@ use mathlib.Core.Path.{sym, ◌∙◌}
 use mathlib.Core.List.{[]}
 use Prim.Native.Nat.{◌≤◌}
 use native.Mathlib.Omega.{arith}
-use borrow.Author.Tests.{not-true, not-false}
 use Rattle.tables.proofs.Checking.{width_most}
 use Rattle.lists.proofs.Holding.{holds_empty}
 use Rattle.forms.specs.declared.Layout.TheVariants.{Packed}
@@ -23,7 +22,7 @@ returns-then-not-read_rows c =
 pub grow_each-g-requires : goal.grow_each-g-requires
 grow_each-g-requires c =
     let p = c.requires in
-    (omega arith, omega (arith, width_most _ p.0), p.1)
+    (omega arith, omega (arith, width_most _ p.0), omega arith)
 
 pub returns : goal.returns
 returns c =

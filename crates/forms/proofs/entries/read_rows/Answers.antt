@@ -1,22 +1,19 @@
-use mathlib.Core.Path.{◌≡◌, sym, ap, ◌∙◌}
-use mathlib.Core.Bool.{true, ◌&&◌}
-use Prim.Native.Nat.{ℕ, ◌+◌, ◌-◌, ◌*◌, ◌≤◌, ◌<◌}
+use mathlib.Core.Path.{sym, ap, ◌∙◌}
+use Prim.Native.Nat.{ℕ, ◌+◌, ◌*◌, ◌≤◌}
 use native.Mathlib.Nat.{not-suc-le-zero}
 use native.Mathlib.Omega.{arith}
-use lib.ListN.{length, get_or, length-set}
+use lib.ListN.{length, length-set}
 use Rattle.words.specs.Words.{word}
 use Rattle.packing.specs.Packing.{unpacked, unpacked_row}
 use Rattle.tables.proofs.Tests.{both_true}
 use Rattle.lists.proofs.Holding.{run_turn}
-use Rattle.forms.specs.declared.Layout.TheVariants.{Packed}
-use Rattle.forms.specs.TableForms.{all_well, all_good}
 use Rattle.codec.proofs.Rows.{row_in}
 use Rattle.forms.proofs.PackedRows.{rows_most}
-use Rattle.forms.proofs.Decoding.{row_told, row_at, row_part, part_length, rows_on, rows_start, rows_tested}
+use Rattle.forms.proofs.Decoding.{row_told, row_at, row_part, part_length, rows_start, rows_tested}
 use Rattle.forms.proofs.Decoding.{rows_ended, rows_hold}
 use borrow.Author.Rules.{rules}
 use Rattle.forms.proofs.entries.read_rows.Goals as goal
-use Rattle.forms.proofs.entries.read_rows.Goals.{After-row_length-k, At-loop-i, In-loop-i}
+use Rattle.forms.proofs.entries.read_rows.Goals.{In-loop-i}
 
 -- where the row at i begins, and its length
 abbrev place : In-loop-i → ℕ
@@ -26,24 +23,20 @@ abbrev size : In-loop-i → ℕ
 size c = c.row_length-k.result
 
 -- it stands within the n rows, which have at most 1792 bytes
-within : (c : In-loop-i) → let n = (start c.before.before).args.n in
-    (place c + size c ≤ 4 + size c * n) × (size c * n ≤ 1792)
+within : (c : In-loop-i) → let n = c.args.n in (place c + size c ≤ 4 + size c * n) × (size c * n ≤ 1792)
 within c =
-    let at_start = start at_row_length in
-    let k = size c in
-    let n = at_start.args.n in
-    let here = row_in k n c.loop-i.i c.loop-i-test.true in
-    (omega (arith, here), rows_most at_start.pre.0 at_start.pre.1 c.row_length-k.ensures)
+    let here = row_in (size c) c.args.n c.loop-i.i c.loop-i-test.true in
+    (omega (arith, here), rows_most c.requires.0 c.requires.1 c.row_length-k.ensures)
 
 -- and so within the bytes
-in_bytes : (c : In-loop-i) → place c + size c ≤ length (start c.before.before).args.b.now
+in_bytes : (c : In-loop-i) → place c + size c ≤ length c.args.b.now
 in_bytes c =
-    let room = rw (← c.row_length-k.ensures) at (start at_row_length).requires.2 in
+    let room = rw (← c.row_length-k.ensures) at c.requires.2 in
     omega (arith, (within c).0, room)
 
 pub loop-i-init : goal.loop-i-init
 loop-i-init c =
-    let a = (start (goal.at.loop-i-init c).After-row_length-k).args in (
+    let a = c.args in (
       omega arith,
       (search rules),
       rows_start a.l a.n a.b.now,
@@ -61,16 +54,16 @@ overflow_add-at-in-loop-i c = let w = within (goal.at.overflow_add-at-in-loop-i 
 
 pub unpack-read-requires : goal.unpack-read-requires
 unpack-read-requires c =
-    let a = (start (goal.at.unpack-read-requires c).After-row_length-k).args in (
+    let a = c.args in (
       c.table-table.ensures,
-      (start (goal.at.unpack-read-requires c).After-row_length-k).requires.0,
+      c.requires.0,
       part_length a.l a.b.now c.loop-i.i c.row_length-k.ensures
           (in_bytes (goal.at.unpack-read-requires c).In-loop-i),
     )
 
 pub loop-i-preserved : goal.loop-i-preserved
 loop-i-preserved c =
-    let a = (start (goal.at.loop-i-preserved c).After-row_length-k).args in
+    let a = c.args in
     let lp = c.loop-i in
     let part = row_part a.l a.b.now lp.i c.row_length-k.ensures in
     let told = row_told a.l (row_at a.l a.b.now lp.i)
@@ -87,11 +80,10 @@ loop-i-preserved c =
 
 pub returns : goal.returns
 returns c =
-    let at_start = start (goal.at.returns c).At-loop-i in
-    let a = at_start.args in
+    let a = c.args in
     let lp = c.loop-i in
     let told = sym (rows_ended a.l a.n a.b.now lp.i lp.good (omega arith) lp.invariant.2) in record {
       clean = told;
-      made = λ good. rows_hold a.l a.n a.b.now lp.row at_start.pre.0 at_start.pre.1 at_start.pre.2
+      made = λ good. rows_hold a.l a.n a.b.now lp.row c.requires.0 c.requires.1 c.requires.2
           lp.invariant.1 (λ m lt. lp.invariant.3 good m (omega arith));
     }

@@ -3,7 +3,6 @@ use mathlib.Core.Path.{◌∙◌}
 use native.Mathlib.Omega.{arith}
 use Rattle.tables.proofs.Values.{entries_of_table}
 use Rattle.forms.specs.TableForms.{entry_bytes}
-use borrow.Author.Rules.{rules}
 use Rattle.forms.proofs.entries.write.Goals as goal
 
 pub write_plain-requires : goal.write_plain-requires

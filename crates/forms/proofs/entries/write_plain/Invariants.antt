@@ -1,23 +1,17 @@
 -- Loop (`Columns`): the care and the value words of the first i entries are written, and the length stays.
-use mathlib.Core.Path.{◌≡◌, refl, ◌∙◌}
-use mathlib.Core.List.{[]}
-use Prim.Native.Nat.{ℕ, ◌+◌, ◌-◌, ◌*◌, ◌≤◌}
-use native.Mathlib.Omega.{arith}
-use lib.ListN.{length, get_or}
+use mathlib.Core.Path.{◌≡◌}
+use Prim.Native.Nat.{◌-◌, ◌≤◌}
+use lib.ListN.{length}
 use Rattle.model.specs.Growth.{Entries}
 use Rattle.tables.specs.Values.{table_of}
 use Rattle.lists.specs.WorkingLists.{Holds}
-use Rattle.lists.proofs.Holding.{holds_length}
-use Rattle.codec.specs.Numbers.{WordSize, joined}
-use Rattle.codec.proofs.Rows.{row_in}
-use Rattle.forms.proofs.WordLengths.{two_or_four, words_most, words_room}
-use Rattle.forms.proofs.Writing.{table_words, table_long, Columns, columns_turn, columns_end}
-use borrow.Author.Rules.{rules}
+use Rattle.forms.proofs.Writing.{Columns}
 use Rattle.forms.proofs.entries.write_plain.Given as goal
 
 abbrev pub invariant-loop-i : goal.invariant-loop-i
 invariant-loop-i l = (l.i ≤ l.n) × (length l.out ≡ length l.initial.out)
-    × ((τ : Entries) → Holds l.l l.list l.n τ → let t = table_of l.l τ in Columns l.k l.n t.care t.value l.initial.out l.out l.i)
+    × ((τ : Entries) → Holds l.l l.list l.n τ → let t = table_of l.l τ in
+    Columns l.k l.n t.care t.value l.initial.out l.out l.i)
 
 abbrev pub decreases-loop-i : goal.decreases-loop-i
 decreases-loop-i l = l.n - l.i
