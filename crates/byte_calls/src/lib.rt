@@ -1,5 +1,6 @@
 // The calls on byte buffers, up to the table or the reply that they come to. Inner: not a public call.
 #![tactic(auto)]
+
 pub mod outputs; // what a call hands back: number, form, word, part
 
 ghost use Rattle.std.specs.Prelude.{◌≡◌};

@@ -10,13 +10,8 @@ use Rattle.tables.specs.Refusals.{answer_number}
 use Rattle.tables.specs.Values.{accepts, good_width}
 use Rattle.operations.specs.Operations.{convert_call}
 use Rattle.forms.proofs.Tests.{held}
-use borrow.Author.Rules.{rules}
 use Rattle.byte_calls.proofs.Written.{came_writable}
-use Rattle.byte_calls.proofs.convert.Statement.{statement}
-use Rattle.byte_calls.proofs.convert.Tie as tie
-
-convert_list_requires : tie.Need-convert-list-requires
-convert_list_requires c κs = search rules
+use Rattle.byte_calls.proofs.convert.Goals as goal
 
 -- a conversion that is accepted has a good width
 accepted_wide : (l : ℕ) (ws : List ℕ) (t : Table) → convert_call l ws ≡ accepts t → good_width l ≡ true
@@ -25,19 +20,11 @@ accepted_wide l ws t e =
     (held (good_width l) _ _ (accepts t) e
     (λ q. let clash : ◌≡◌ {A = ℕ} 2 0 = ap (λ (x : Answered). answer_number x.answer) q in absurd (omega arith))).0
 
-write_came_requires : tie.Need-write-came-requires
-write_came_requires c κs =
-    let at_convert = c.before.before in
-    let a = at_convert.before.before.before.before.args in
-    came_writable at_convert.convert-list.ensures.1 (accepted_wide a.l a.groups.now)
+pub write_came-requires : goal.write_came-requires
+write_came-requires c =
+    let a = c.args in
+    came_writable c.convert_list-came.ensures.comes (accepted_wide a.l a.groups.now)
 
-same_length : tie.Need-same-length
-same_length c = search rules
-
-returns : tie.Need-returns
+pub returns : goal.returns
 returns c =
-    let at_write = c.before.before in
-    at_write.write-came.ensures _ at_write.before.before.before.convert-list.ensures.1
-
-pub convert_spec : {M : Type 1} → statement M
-convert_spec = tie.close (tie.spec convert_list_requires write_came_requires same_length returns)
+    let w = c.write_came.ensures _ c.convert_list-came.ensures.comes in record { number = w.0; bytes = w.1 }
