@@ -1,5 +1,6 @@
 // The running analysis and the run, on states by value. Inner: not a public call.
 #![tactic(auto)]
+
 ghost use Rattle.std.specs.Prelude.{◌≡◌, ◌≤◌};
 ghost use Rattle.tables.specs.declared.Answered.{Answered as AnsweredTable};
 ghost use Rattle.tables.specs.Refusals.{answer_number};
