@@ -17,6 +17,7 @@ TOKEN = re.compile(r"(--[^\n]*|//[^\n]*)|(\"(?:[^\"\\\n]|\\.)*\")|(\.?)(" + WORD
 NAME = re.compile(r"[^\W\d][^-]*(-[^-]+)+$")
 USE = re.compile(r"^(?:pub )?(?:ghost )?use ([^\s{;]+?)\.\{([^}]*)\}", re.M)
 DECLARED = re.compile(r"^\s*(?:(?:unfoldable|abbrev|pub|data|record) )*(" + WORD + r")(?: [({][^\n]*)? :(?: |$)", re.M)
+ALIAS = re.compile(r" as ([^\W\d][\w']*(?:-[\w']+)+)(?=[,}])")
 FIELD = re.compile(r"^  +(?:pub )?(" + WORD + r") :(?: |$)", re.M)
 # What Rattle makes for the proof of a function keeps its spelling there.
 MADE = re.compile(
@@ -102,7 +103,9 @@ def main():
         theirs = imported(text)
         of_source = path.endswith((".rt", ".edit"))
         proof = path.endswith("/Proof.antt")
-        new = turn(text, names, fields, theirs, proof, not of_source)
+        # In a source file, what an import is called there is a name too.
+        called = set(ALIAS.findall(text)) if path.endswith(".rt") else set()
+        new = turn(text, names | called, fields, theirs - called, proof, not of_source)
         if new != text:
             turned[path] = new
         if path.endswith(".antt"):

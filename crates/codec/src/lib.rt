@@ -1,5 +1,6 @@
 // Numbers in byte buffers, low byte first: of 16 bits, and words of 16 or 32. Inner: not a public call.
 #![tactic(auto)]
+
 ghost use Rattle.std.specs.Prelude.{◌≡◌, ◌+◌, ◌*◌, ◌≤◌, ◌<◌, length, take, drop};
 ghost use Rattle.std.proofs.lemmas.List.Edits.{sets};
 ghost use Rattle.codec.specs.Numbers.{number_at, word_at, numbers, sum, with_zeros};

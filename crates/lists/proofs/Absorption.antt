@@ -16,6 +16,7 @@ use lib.Seq.{get_or-set_same, get_or-set_other}
 use Rattle.model.specs.Strings.{Trits, subsumes, all_zero}
 use Rattle.model.specs.Growth.{Entries, limit, subsumed, remove, widen, absorbed, grow}
 use Rattle.model.specs.Stirring.{stirs}
+use Rattle.model.specs.Widest.{EntryOf}
 use Rattle.model.proofs.Entries.{subsumes_length, remove_append}
 use Rattle.model.proofs.Growth.{grow_absorbed}
 use Rattle.model.proofs.Overflow.{remove_length}
@@ -28,11 +29,10 @@ use Rattle.words.proofs.Halves.{care_word, word_lt, fixed_lt, low_lt, halves_or}
 use Rattle.words.proofs.Words.{word_subsumes, zero_string}
 use Rattle.lists.specs.declared.Grown.TheVariants.{Count}
 use Rattle.lists.specs.WorkingLists.{Holds, Makes, makes}
-use Rattle.lists.specs.Filters.{Unmoved, QuietFrom, Noted, Slot, slots, filter_size, string_at, note_at, version_index}
+use Rattle.lists.specs.Filters.{Idle, QuietFrom, Noted, Slot, slots, filter_size, string_at, note_at, version_index}
 use Rattle.lists.specs.Filters.{version, Filters, Seen}
 use Rattle.lists.proofs.Holding.{holds_length}
 use Rattle.lists.proofs.Growing.{append_room, append_full, grow_new}
-use Rattle.lists.proofs.Guards.{guarded_absorbed, guarded_grown, index_of}
 use Rattle.lists.proofs.SoFar.{SoFar, so_far_same}
 
 -- as `(a != b) | (c != d)` comes into a goal
@@ -48,23 +48,27 @@ both_same a b c d e =
 -- ---- Strings that change nothing
 
 -- growing by such a string changes nothing
-pub unmoved_absorbed : (τ : Entries) (s z : Trits) → Unmoved τ s z → T (absorbed τ s)
+pub idle_absorbed : (τ : Entries) (s z : Trits) → Idle τ s z → T (absorbed τ s)
 unfolding absorbed
-unmoved_absorbed τ s z (inl (inl h)) = or_left (all_zero s) (subsumed τ (widen τ s)) h
-unmoved_absorbed τ s z (inl (inr h)) = or_right (all_zero s) (subsumed τ (widen τ s)) (rw h.0 h.1)
-unmoved_absorbed τ s z (inr h) = or_right (all_zero s) (subsumed τ (widen τ s)) (guarded_absorbed τ s h.1)
+idle_absorbed τ s z (inl h) = or_left (all_zero s) (subsumed τ (widen τ s)) h
+idle_absorbed τ s z (inr h) = or_right (all_zero s) (subsumed τ (widen τ s)) (rw h.0 h.1)
 
 -- and the other way round
-pub absorbed_unmoved : (τ : Entries) (s : Trits) → T (absorbed τ s) → Unmoved τ s (widen τ s)
+pub absorbed_idle : (τ : Entries) (s : Trits) → T (absorbed τ s) → Idle τ s (widen τ s)
 unfolding absorbed
-absorbed_unmoved τ s h = ⊎_elim (λ k. inl (inl k)) (λ k. inl (inr (refl, k))) (or_cases (all_zero s) (subsumed τ (widen τ s)) h)
+absorbed_idle τ s h = ⊎_elim inl (λ k. inr (refl, k)) (or_cases (all_zero s) (subsumed τ (widen τ s)) h)
 
 -- nor does it where a string is appended that does not stir it
-unmoved_grown : (e : Trits) (τ : Entries) (s z : Trits) → Unmoved τ s z → ¬ (T (stirs e s z)) → Unmoved (remove e τ ++ (e ∷ [])) s z
-unmoved_grown e τ s z (inl (inl h)) n = inl (inl h)
-unmoved_grown e τ s z (inl (inr h)) n = inl (inr (unstirred_grown e τ s z h.0 h.1 n))
-unmoved_grown e τ s z (inr h) n =
-    inr ((h.0, guarded_grown e τ s h.1 (λ k. n (subst (λ (r : Trits). T (stirs e s r)) h.0 k))))
+idle_grown : (e : Trits) (τ : Entries) (s z : Trits) → Idle τ s z → ¬ (T (stirs e s z)) → Idle (remove e τ ++ (e ∷ [])) s z
+idle_grown e τ s z (inl h) n = inl h
+idle_grown e τ s z (inr h) n = inr (unstirred_grown e τ s z h.0 h.1 n)
+
+-- the index of an entry
+index_of : (ν : Entries) (e : Trits) → EntryOf ν e → (m : ℕ) × (m < length ν) × (get_or ν m [] ≡ e)
+unfolding EntryOf
+index_of [] e i = absurd i
+index_of (r ∷ ν) e (inl i) = (0, omega arith, i)
+index_of (r ∷ ν) e (inr i) = let m = index_of ν e i in (suc m.0, omega (arith, m.1), m.2)
 
 -- what stands behind a list
 getD_behind : (τ ν : Entries) (m : ℕ) → get_or (τ ++ ν) (length τ + m) [] ≡ get_or ν m []
@@ -82,8 +86,8 @@ quiet_more τ s z j i p e x le lt = go (eqb x i) refl
 
 module _ {a v : ℕ} {τ : Entries} {s : Trits} (b : Noted a v τ s) where
   -- it changes nothing while none of the entries of τ that may have been appended since stirs it
-  pub noted_unmoved : (j n : ℕ) → n ≡ length τ → j + v ≤ n + low a → QuietFrom τ s b.widened j n → Unmoved τ s b.widened
-  noted_unmoved j n count early quiet = b.still (λ e i h.
+  pub noted_idle : (j n : ℕ) → n ≡ length τ → j + v ≤ n + low a → QuietFrom τ s b.widened j n → Idle τ s b.widened
+  noted_idle j n count early quiet = b.still (λ e i h.
       let m = index_of b.since e i in
       let all : length τ ≡ length b.before + length b.since =
       ap length b.split ∙ length-append b.before b.since in
@@ -107,12 +111,12 @@ module _ {a v : ℕ} {τ : Entries} {s : Trits} (b : Noted a v τ s) where
         ∙ append_assoc (remove e b.before) (remove e b.since) (e ∷ []);
     few = omega (arith, snoc_length (remove e b.since) e, remove_length e b.since, b.few);
     still = λ quiet.
-        unmoved_grown e τ s b.widened (b.still (quiet_before e b.since s b.widened quiet))
+        idle_grown e τ s b.widened (b.still (quiet_before e b.since s b.widened quiet))
         (quiet e (appended e b.since));
   }
 
 -- noted of the list's own version
-noted_now : {a v : ℕ} {τ : Entries} {s : Trits} (z : Trits) → high a ≡ care_of z → T (subsumes z s) → low a ≡ v → Unmoved τ s z
+noted_now : {a v : ℕ} {τ : Entries} {s : Trits} (z : Trits) → high a ≡ care_of z → T (subsumes z s) → low a ≡ v → Idle τ s z
     → Noted a v τ s
 noted_now {τ = τ} z kept over now idle = record {
   widened = z;
@@ -154,7 +158,7 @@ slot_zero {l} τ short is now =
       long = z.1;
       is = is ∙ z.3;
       noted = noted_now z.0 (ap high is ∙ zero_care l z.0 (rw z.1 short) z.3) (subsumes_same z.0) now
-          (inl (inl (rw z.2 tt)));
+          (inl (rw z.2 tt));
     }
 
 -- ---- A filter
@@ -173,7 +177,7 @@ filter_start {l} {w} τ short is = record {
 module _ {l : ℕ} {τ : Entries} {seen : List ℕ} (f : Filters l seen τ) where
   -- a slot notes a string that the list absorbs
   pub filter_note : l ≤ 32 → (s u k : ℕ) (y z : Trits) → s < slots → length y ≡ l → u ≡ word y → k ≡ care_of z
-      → T (subsumes z y) → Unmoved τ y z
+      → T (subsumes z y) → Idle τ y z
       → Filters l (set (set seen s u) (slots + s) (bit_or ((k * 2 ^ 32) % 2 ^ 64) (version seen))) τ
   filter_note short s u k y z lt long is kept over idle = record {
     room = length-set (set seen s u) (slots + s) a ∙ length-set seen s u ∙ f.room;
@@ -267,8 +271,8 @@ module _ {l : ℕ} {τ : Entries} {seen : List ℕ} (f : Filters l seen τ) wher
       → string_at seen k ≡ word y → grow τ y ≡ some τ
   filter_same short k lt now y long is =
       let b = filter_noted short k lt y long is in
-      grow_absorbed τ y (unmoved_absorbed τ y b.widened
-      (noted_unmoved b (length τ) (length τ) refl (omega (arith, now)) (λ i le lt. absurd (omega arith))))
+      grow_absorbed τ y (idle_absorbed τ y b.widened
+      (noted_idle b (length τ) (length τ) refl (omega (arith, now)) (λ i le lt. absurd (omega arith))))
 
 -- one word of the row more stands in a slot of the list's version
 pub seen_more : (row seen : List ℕ) (j i k : ℕ) → Seen row seen j i → k < slots

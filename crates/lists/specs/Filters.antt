@@ -6,15 +6,10 @@ use Rattle.model.specs.Growth.{Entries, subsumed, widen}
 use Rattle.model.specs.Stirring.{stirs}
 use Rattle.model.specs.Widest.{EntryOf}
 use Rattle.words.specs.Words.{word, care_of, high, low}
-use Rattle.lists.specs.Widening.{Guarded}
 
--- Growing τ by s changes nothing: s is all zero; or it is widened to z, and an entry subsumes that.
+-- Growing τ by s changes nothing: s is all zero, or it is widened to z and an entry subsumes that.
 abbrev pub Idle : Entries → Trits → Trits → Type 0
 Idle τ s z = T (all_zero s) ⊎ ((widen τ s ≡ z) × T (subsumed τ z))
-
--- The same; or entries guard s, and z is s itself.
-abbrev pub Unmoved : Entries → Trits → Trits → Type 0
-Unmoved τ s z = Idle τ s z ⊎ ((s ≡ z) × Guarded τ s)
 
 -- No string of ν stirs s, which was widened to z.
 abbrev pub Quiet : Entries → Trits → Trits → Type 0
@@ -35,7 +30,7 @@ pub record Noted (a v : ℕ) (τ : Entries) (s : Trits) : Type 0 where
   pub since : Entries
   pub split : τ ≡ before ++ since
   pub few : low a + length since ≤ v
-  pub still : Quiet since s widened → Unmoved τ s widened
+  pub still : Quiet since s widened → Idle τ s widened
 
 -- The word w of a slot is that of a string of l positions.
 pub record Slot (l w a v : ℕ) (τ : Entries) : Type 0 where

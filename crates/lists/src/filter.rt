@@ -9,7 +9,7 @@ ghost use Rattle.model.specs.Strings.{Trits, subsumes, all_zero};
 ghost use Rattle.model.specs.Growth.{Entries, remove, absorbed, grow as grow_list, grow_all};
 ghost use Rattle.words.specs.Words.{word, care_of};
 ghost use Rattle.lists.specs.WorkingLists.{Holds, OfString, Within, Makes};
-ghost use Rattle.lists.specs.Filters.{Unmoved, QuietFrom, slots, Filters, Seen};
+ghost use Rattle.lists.specs.Filters.{Idle, QuietFrom, slots, Filters, Seen};
 
 use crate::Grown;
 use crate::widening::Standing;
@@ -54,7 +54,7 @@ fn unseen(row: &[u64; 256], j: usize, m: usize, seen: &[u64; SIZE]) -> usize
 // Notes y, by which growing the list changes nothing, and the positions that its widening leaves fixed.
 fn note(seen: &mut [u64; SIZE], y: u64, kept: u64)
     ensures { (l : ℕ) (τ : Entries) (s z : Trits) → l ≤ 32 → Filters l seen.old τ → length s ≡ l → y ≡ word s
-        → kept ≡ care_of z → T (subsumes z s) → Unmoved τ s z → Filters l seen.new τ }
+        → kept ≡ care_of z → T (subsumes z s) → Idle τ s z → Filters l seen.new τ }
 {
     let s = slot(y);
     let version = seen[VERSION] % words::HALF;
@@ -152,10 +152,7 @@ fn grow_surveyed(list: &mut [u64; 256], n: usize, l: u32, y: u64, seen: &mut [u6
         → Filters l seen.new κ) }
 {
     match crate::widening::survey(list, n, y) {
-        Standing::Absorbed => {
-            note(seen, y, words::fixed(y));
-            Grown::Count(n)
-        }
+        Standing::Absorbed => Grown::Count(n),
         Standing::Stays => {
             next_version(l, seen);
             note(seen, y, words::fixed(y));

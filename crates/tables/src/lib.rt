@@ -1,4 +1,6 @@
 // Tables of ternary strings: the table value with its limits, the refusals, and the check of a table value.
+#![tactic(auto)]
+
 ghost use Rattle.std.specs.Prelude.{◌≡◌, cond, [], ◌∷◌, ◌≤◌};
 ghost use Rattle.model.specs.Strings.{stars};
 ghost use Rattle.tables.specs.Refusals.{refusal_number, answer_number};

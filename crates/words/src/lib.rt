@@ -3,6 +3,7 @@
 // Each contract says what comes out for any words, and for the words of strings of any one length to 32 that it is the
 // model's operation.
 #![tactic(auto)]
+
 ghost use Rattle.std.specs.Prelude.{◌≡◌, ◌-◌, ◌^◌, ◌<◌, ◌≤◌, true, false, map, length, ◌==◌, bit_or, count_ones, nat_lt};
 ghost use Rattle.model.specs.Groups.{Bits, cut as cut_string};
 ghost use Rattle.model.specs.Strings.{Trits, subsumes as subsumes_string, matches as matches_string, meet as meet_string};

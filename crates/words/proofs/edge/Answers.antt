@@ -6,6 +6,8 @@ use Rattle.words.proofs.edge.Goals as goal
 pub returns : goal.returns
 unfolding lacks_word
 returns c =
-    record { strings = let w = c.fixed in
-    let y = c.fixed-2 in
-    λ s t n short es et near h. rw (w.ensures.words, y.ensures.words, es, et) (word_edge s t n short near h) }
+    record {
+      strings = let w = c.fixed in
+          let y = c.fixed-2 in
+          λ s t n short es et near h. rw (w.ensures.words, y.ensures.words, es, et) (word_edge s t n short near h);
+    }

@@ -1,7 +1,7 @@
--- By the survey: a string that entries guard is noted as it is; one that none touches is inserted as it is, and the version
+-- By the survey: a string that entries guard changes nothing; one that none touches is inserted as it is, and the version
 -- rises; else it is widened.
-use mathlib.Core.Path.{refl, subst}
-use mathlib.Core.Logic.{inl, inr}
+use mathlib.Core.Path.{subst}
+use mathlib.Core.Logic.{inr}
 use Rattle.model.proofs.Quiet.{own_grown}
 use Rattle.model.proofs.Subsuming.{subsumes_same}
 use Rattle.lists.specs.Widening.{Surveyed}
@@ -19,9 +19,7 @@ returns-in-Absorbed c =
           absorbed_makes τ s (rw (guarded_idle τ s nonzero g) tt) h;
       filter = λ τ s h e y κ nonzero f k.
           let g = subst (Surveyed τ s) c.in-Absorbed.is (s-ensures _ τ s h e y) in
-          absorbed_filter τ s (rw (guarded_idle τ s nonzero g) tt) k
-          (c.note.ensures _ τ s s h.short f e y (c.fixed.ensures.strings s (rw e h.short) y) (subsumes_same s)
-          (inr (refl, g)));
+          absorbed_filter τ s (rw (guarded_idle τ s nonzero g) tt) k f;
     }
 
 pub returns-in-Stays : goal.returns-in-Stays
@@ -37,6 +35,6 @@ returns-in-Stays c =
           let stays = untouched_stays τ s u in
           grown_filter τ s (untouched_new τ s nonzero u) k
           (rw stays
-          (c.note-in-Stays.ensures _ _ s s h.short (c.next_version.ensures τ s f) e y
-          (c.fixed-in-Stays.ensures.strings s (rw e h.short) y) (subsumes_same s) (inl (inr (own_grown τ s s stays)))));
+          (c.note.ensures _ _ s s h.short (c.next_version.ensures τ s f) e y
+          (c.fixed.ensures.strings s (rw e h.short) y) (subsumes_same s) (inr (own_grown τ s s stays))));
     }

@@ -2,7 +2,7 @@
 -- nothing, and y is noted.
 use mathlib.Core.Path.{◌≡◌, refl, sym, ◌∙◌}
 use mathlib.Core.Bool.{false}
-use mathlib.Core.Logic.{inl, inr}
+use mathlib.Core.Logic.{inr}
 use lib.Dec.{T}
 use lib.ListN.{length}
 use Rattle.model.specs.Strings.{Trits, all_zero}
@@ -14,7 +14,7 @@ use Rattle.words.specs.Words.{word, care_of}
 use Rattle.lists.specs.WorkingLists.{Holds}
 use Rattle.lists.proofs.Growing.{grow_new, new_unsubsumed, by_subsumed}
 use Rattle.lists.proofs.WideningByPasses.{of_over}
-use Rattle.lists.proofs.Absorption.{absorbed_unmoved, absorbed_makes, absorbed_filter, grown_filter}
+use Rattle.lists.proofs.Absorption.{absorbed_idle, absorbed_makes, absorbed_filter, grown_filter}
 use Rattle.lists.proofs.filter.grow_widened.Goals as goal
 use Rattle.lists.proofs.filter.grow_widened.Goals.{After-covered}
 
@@ -43,7 +43,7 @@ returns-then-covered c =
           let w = widened (goal.at.returns-then-covered c).After-covered τ s h e y nonzero in
           let absorbs : T (absorbed τ s) = rw (sym w.2 ∙ c.if-covered.true) tt in
           absorbed_filter τ s absorbs g
-          (c.note.ensures _ τ s (widen τ s) h.short f e y w.1 (widen_up τ s) (absorbed_unmoved τ s absorbs));
+          (c.note.ensures _ τ s (widen τ s) h.short f e y w.1 (widen_up τ s) (absorbed_idle τ s absorbs));
     }
 
 pub returns : goal.returns
@@ -61,5 +61,5 @@ returns c =
           let changes = sym w.2 ∙ c.if-covered.false in
           grown_filter τ s changes g
           (c.note-2.ensures _ _ s (widen τ s) h.short (c.next_version.ensures τ (widen τ s) f) e y
-          w.1 (widen_up τ s) (inl (inr (own_grown τ s (widen τ s) refl))));
+          w.1 (widen_up τ s) (inr (own_grown τ s (widen τ s) refl)));
     }
