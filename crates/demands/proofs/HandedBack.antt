@@ -165,7 +165,8 @@ module _ (f : Layout) {t : Table} {Early : Refusal → Type 0} {Ready : Type 0} 
       let n : output_number_as f a out ≡ 8 = number_is f a out (output_refused f a out refl) in rw n tt
   listed {a} (accepted ready m h) good out =
       let n = output_number_as f a out in
-      let at : (k : ℕ) → T (member k (0 ∷ 8 ∷ 9 ∷ ns)) → n ≡ k → T (member n (0 ∷ 8 ∷ 9 ∷ ns)) = λ k h e. rw e h in
+      let at : (k : ℕ) → T (member k (0 ∷ 8 ∷ 9 ∷ ns)) → n ≡ k → T (member n (0 ∷ 8 ∷ 9 ∷ ns)) =
+      λ k h e. subst (λ (i : ℕ). T (member i (0 ∷ 8 ∷ 9 ∷ ns))) (sym e) h in
       ⊎_elim (λ k. at 0 tt (number_is f a out k)) (λ k. at 9 tt (number_is f a out k)) (accepted_number f a good out refl)
 
   -- What an exported call returns and writes, from how the call itself can answer.

@@ -12,7 +12,7 @@ use Rattle.tables.specs.declared.Answered.{Answered}
 use Rattle.tables.specs.Values.{table_of, zero_table, accepts, refuses, made_or_full, good_width}
 use Rattle.lists.specs.declared.Grown.{Grown}
 use Rattle.lists.specs.declared.Grown.TheVariants.{Count, Full}
-use Rattle.lists.specs.WorkingLists.{Holds, Makes}
+use Rattle.lists.specs.WorkingLists.{Holds, Within, Makes, makes, stops}
 use Rattle.lists.proofs.Holding.{makes_count, makes_full}
 use Rattle.forms.specs.declared.Layout.{Layout}
 use Rattle.forms.specs.declared.Listed.{Listed}
@@ -48,6 +48,11 @@ pub read_few : {list : List ℕ} {l n : ℕ} {a : Answered} → ReadAs list l n 
 read_few m = omega (arith, m.held.count, m.held.good.few)
 
 -- ---- What was grown is what was read
+
+-- a count of what was made is within the limit
+pub made_within : {l : ℕ} {list : List ℕ} {g : Grown} {o : Option Entries} → Makes l list g o → Within g
+made_within (makes h) = omega (arith, h.count, h.good.few)
+made_within stops = tt
 
 module _ {l : ℕ} {list : List ℕ} {g : Grown} {o : Option Entries} (made : Makes l list g o) where
   -- a list

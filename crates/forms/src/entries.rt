@@ -3,7 +3,7 @@ ghost use Rattle.std.specs.Prelude.{◌≡◌, true, List, [], ℕ, ◌≤◌, �
 ghost use Rattle.std.proofs.Math.Option.{Option};
 ghost use Rattle.std.proofs.lemmas.List.Edits.{sets};
 ghost use Rattle.model.specs.Growth.{Entries, grow_all};
-ghost use Rattle.tables.specs.Values.{table_of, good_width, zero_table, made_or_full};
+ghost use Rattle.tables.specs.Values.{table_of, good_width, zero_table, made_or_full, GoodTable};
 ghost use Rattle.lists.specs.WorkingLists.{Holds, Makes};
 ghost use Rattle.forms.specs.declared.Layout.TheVariants.{Plain, Packed};
 ghost use Rattle.forms.specs.TableForms.{word_length, form_length, written_at, written_entries, all_well};
@@ -12,7 +12,7 @@ ghost use Rattle.forms.specs.Listings.{Reads};
 
 use crate::{Layout, Listed};
 use lists::Grown;
-use tables::Refusal;
+use tables::{Answered, Refusal, Table};
 use words::Entry;
 
 // How many bytes a care or value word of entries of l positions has: so many that each position has a bit.
@@ -135,7 +135,7 @@ fn read_packed(l: u32, n: usize, b: &[u8], list: &mut [u64; 256]) -> Listed
 }
 
 // Reads n written entries into a list.
-pub fn read(layout: Layout, l: u32, n: usize, b: &[u8], list: &mut [u64; 256]) -> Listed
+pub fn read_listed(layout: Layout, l: u32, n: usize, b: &[u8], list: &mut [u64; 256]) -> Listed
     requires { (good_width l ≡ true) × (n ≤ 256) × (form_length layout l n ≤ length b.now) }
     ensures { Reads list.new result (read_entries layout l n b.now) }
 {
@@ -177,7 +177,7 @@ fn write_rows(l: u32, n: usize, list: &[u64; 256], out: &mut [u8])
 }
 
 // Writes the entries of a list after the sizes.
-pub fn write(layout: Layout, l: u32, n: usize, list: &[u64; 256], out: &mut [u8])
+pub fn write_listed(layout: Layout, l: u32, n: usize, list: &[u64; 256], out: &mut [u8])
     requires { ((τ : Entries) × Holds l list.now n τ) × (form_length layout l n ≤ length out.old) }
     ensures { (τ : Entries) → Holds l list.now n τ
         → out.new ≡ sets out.old 4 (entry_bytes layout (table_of l τ)) }
@@ -186,4 +186,54 @@ pub fn write(layout: Layout, l: u32, n: usize, list: &[u64; 256], out: &mut [u8]
         Layout::Plain => write_plain(l, n, list, out),
         Layout::Packed => write_rows(l, n, list, out),
     }
+}
+
+// The table of n plain entries: 4 by entry, then they are grown.
+fn plain_table(l: u32, n: usize, b: &[u8]) -> Answered
+    requires { (l ≤ 32) × (n ≤ 256) × (form_length Plain l n ≤ length b.now) }
+    ensures { result ≡ read_entries Plain l n b.now }
+{
+    if !clean(l, n, b) {
+        return tables::refused(Refusal::Stray);
+    }
+    let mut list = [0u64; 256];
+    let g = grow_plain(l, n, b, &mut list);
+    lists::values::made_or_full(l, Table::zero(), g, &list)
+}
+
+// The table of n packed entries: 12 by entry, then they are grown.
+fn packed_table(l: u32, n: usize, b: &[u8]) -> Answered
+    requires { (l ≤ 32) × (n ≤ 256) × (form_length Packed l n ≤ length b.now) }
+    ensures { result ≡ read_entries Packed l n b.now }
+{
+    let mut row = [0u64; 256];
+    if !read_rows(l, n, b, &mut row) {
+        return tables::refused(Refusal::Digit);
+    }
+    let mut list = [0u64; 256];
+    let g = lists::growth::grow_each(&mut list, 0, l, &row, n);
+    lists::values::made_or_full(l, Table::zero(), g, &list)
+}
+
+// The table of n written entries.
+pub fn read(layout: Layout, l: u32, n: usize, b: &[u8]) -> Answered
+    requires { (l ≤ 32) × (n ≤ 256) × (form_length layout l n ≤ length b.now) }
+    ensures { result ≡ read_entries layout l n b.now }
+{
+    match layout {
+        Layout::Plain => plain_table(l, n, b),
+        Layout::Packed => packed_table(l, n, b),
+    }
+}
+
+// Writes the entries of a good table after the sizes.
+pub fn write(layout: Layout, t: Table, out: &mut [u8])
+    requires { GoodTable t × (form_length layout t.l t.n ≤ length out.old) }
+    ensures { out.new ≡ sets out.old 4 (entry_bytes layout t) }
+{
+    let l = t.l;
+    let n = t.n;
+    let mut list = [0u64; 256];
+    lists::values::load(&t.care, &t.value, n, &mut list);
+    write_listed(layout, l, n, &list, out)
 }

@@ -76,7 +76,7 @@ pub fn read_list(layout: Layout, extent: Extent, b: &[u8], list: &mut [u64; 256]
     if !fits(extent, form_length(layout, l, n), b.len()) {
         return Listed::Refused(Refusal::Torn);
     }
-    entries::read(layout, l, n, b, list)
+    entries::read_listed(layout, l, n, b, list)
 }
 
 // Reads a table, as a value.
@@ -131,7 +131,7 @@ pub fn write_list(layout: Layout, l: u32, n: usize, list: &[u64; 256], out: &mut
     }
     codec::write_number(out, 0, l);
     codec::write_number(out, 2, n as u32);
-    entries::write(layout, l, n, list, out);
+    entries::write_listed(layout, l, n, list, out);
     Answer::Accepted
 }
 

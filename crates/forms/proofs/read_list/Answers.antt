@@ -55,12 +55,12 @@ returns-then-not-fits c =
     c.if-n-gt-ENTRIES.false
     (fitting (goal.at.returns-then-not-fits c).After-fits ∙ c.if-not-fits.true))
 
-pub read-requires : goal.read-requires
-read-requires c =
+pub read_listed-requires : goal.read_listed-requires
+read_listed-requires c =
     let a = c.args in (
-      wide (goal.at.read-requires c).Else-not-good_width,
+      wide (goal.at.read_listed-requires c).Else-not-good_width,
       c.if-n-gt-ENTRIES.false,
-      fits_room a.extent _ (length a.b.now) (fitting (goal.at.read-requires c).After-fits ∙ c.if-not-fits.false),
+      fits_room a.extent _ (length a.b.now) (fitting (goal.at.read_listed-requires c).After-fits ∙ c.if-not-fits.false),
     )
 
 pub returns : goal.returns
@@ -68,4 +68,4 @@ returns c =
     let a = c.args in
     same_reads (read_all a.layout a.extent a.b.now _ _ c.number_at-l.ensures
     c.number_at-n.ensures c.if-b-lt4.false (wide (goal.at.returns c).Else-not-good_width) c.if-n-gt-ENTRIES.false
-    (fitting (goal.at.returns c).After-fits ∙ c.if-not-fits.false)) c.read.ensures
+    (fitting (goal.at.returns c).After-fits ∙ c.if-not-fits.false)) c.read_listed.ensures

@@ -37,12 +37,12 @@ pub write_number-requires-2 : goal.write_number-requires-2
 write_number-requires-2 c =
     omega (arith, sizes_in (goal.at.write_number-requires-2 c).Else-out-form_length, c.write_number.auto.b)
 
-pub write-requires : goal.write-requires
-write-requires c = (
+pub write_listed-requires : goal.write_listed-requires
+write_listed-requires c = (
   c.requires.1,
   omega (
     arith,
-    fits_in (goal.at.write-requires c).Else-out-form_length,
+    fits_in (goal.at.write_listed-requires c).Else-out-form_length,
     c.write_number.auto.b,
     c.write_number-2.auto.b,
   ),
@@ -52,4 +52,4 @@ pub returns : goal.returns
 returns c =
     let a = c.args in
     λ τ h. list_fits a.layout c.requires.0 h a.out.now (fits_in (goal.at.returns c).Else-out-form_length)
-    c.write_number.ensures c.write_number-2.ensures (c.write.ensures τ h)
+    c.write_number.ensures c.write_number-2.ensures (c.write_listed.ensures τ h)

@@ -1,29 +1,22 @@
--- Each layout is its own writer; the table of a list holds the list.
-use mathlib.Core.Path.{◌∙◌}
+-- The list that is loaded from a good table holds its entries, and these are written.
 use native.Mathlib.Omega.{arith}
-use Rattle.tables.proofs.Values.{entries_of_table}
-use Rattle.forms.specs.TableForms.{entry_bytes}
+use Rattle.tables.specs.Values.{entries_of}
+use Rattle.tables.proofs.Checking.{good_few, good_holds, width_most}
+use Rattle.lists.specs.WorkingLists.{Holds}
 use Rattle.forms.proofs.entries.write.Goals as goal
+use Rattle.forms.proofs.entries.write.Goals.{After-load}
 
-pub write_plain-requires : goal.write_plain-requires
-write_plain-requires c =
-    let p = c.requires in
-    let h = p.0.1 in
-    let room = rw c.in-Plain.is at p.1 in
-    (omega (arith, h.count, h.good.few), room)
+-- what the list that is loaded holds
+held : (c : After-load) → let t = c.args.t in Holds t.l c.load.new.list t.n (entries_of t)
+held c =
+    let g = c.requires.0 in
+    c.load.ensures _ _ (omega (arith, width_most _ g.width)) (good_holds g)
 
-pub write_rows-requires : goal.write_rows-requires
-write_rows-requires c =
-    let p = c.requires in
-    let room = rw c.in-Packed.is at p.1 in
-    (p.0, room)
+pub load-requires : goal.load-requires
+load-requires c = good_few c.requires.0
 
-pub returns-in-Plain : goal.returns-in-Plain
-returns-in-Plain c =
-    rw c.in-Plain.is c.write_plain.ensures
+pub write_listed-requires : goal.write_listed-requires
+write_listed-requires c = ((_, held (goal.at.write_listed-requires c).After-load), c.requires.1)
 
-pub returns-in-Packed : goal.returns-in-Packed
-unfolding entry_bytes
-returns-in-Packed c =
-    rw c.in-Packed.is
-    (λ τ h. c.write_rows.ensures τ h ∙ rw (entries_of_table _ τ h.good))
+pub returns : goal.returns
+returns c = rw c.requires.0.same (c.write_listed.ensures _ (held (goal.at.returns c).After-load))

@@ -1,5 +1,5 @@
 -- Each layout is its own reader.
-use Rattle.forms.proofs.entries.read.Goals as goal
+use Rattle.forms.proofs.entries.read_listed.Goals as goal
 
 pub read_plain-requires : goal.read_plain-requires
 read_plain-requires c = let p = c.requires in rw c.in-Plain.is at p
