@@ -22,7 +22,8 @@ returns-then-out-end c =
     let code = refusal_number c.args.r in
     let out = c.args.out.now in
     let end = c.digits-end.ensures ∙ ap length (ap decimal c.refusal_number-code.ensures) in
-    let short : length out < length (refused_text code) = omega (arith, refused_length code, c.if-out-end.true, end) in record {
+    let short : length out < length (refused_text code) =
+    omega (arith, refused_length code, c.if-out-end.true, end) in record {
       answer = rw (c.refused-state.ensures, c.refusal_number-code.ensures)
           (ap (λ (s : Running). record { state = s; size = 0 }) (narrowed_none c.args.r)
           ∙ reported_narrow (none_applied code 0) (refused_text code) out short);
