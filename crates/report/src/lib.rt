@@ -1,5 +1,6 @@
 // The report of an input: a positive table and equations, run, and written as text into a lent output.
 #![tactic(auto)]
+
 ghost use Rattle.std.specs.Prelude.{◌≡◌};
 ghost use Rattle.tables.specs.Refusals.{refusal_number};
 ghost use Rattle.tables.specs.Values.{GoodTable};

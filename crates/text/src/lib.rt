@@ -1,5 +1,6 @@
 // The text of a run, measured or written straight into a lent output. Inner: not a public call.
 #![tactic(auto)]
+
 pub mod lines; // numbers, lines and entries
 pub mod runs; // a table, an equation, a run
 

@@ -14,13 +14,21 @@ few c =
     )
 
 pub overflow_add-result : goal.overflow_add-result
-overflow_add-result c = let p = c.requires in omega (arith, (few (goal.at.overflow_add-result c).After-digits-2).0, (few (goal.at.overflow_add-result c).After-digits-2).1, p.0, p.1)
+overflow_add-result c =
+    let f = few (goal.at.overflow_add-result c).After-digits-2 in
+    omega (arith, f.0, f.1, c.requires.0, c.requires.1)
 
 pub overflow_add-result-2 : goal.overflow_add-result-2
-overflow_add-result-2 c = let p = c.requires in omega (arith, (few (goal.at.overflow_add-result-2 c).After-digits-2).0, (few (goal.at.overflow_add-result-2 c).After-digits-2).1, p.0, p.1)
+overflow_add-result-2 c =
+    let f = few (goal.at.overflow_add-result-2 c).After-digits-2 in
+    omega (arith, f.0, f.1, c.requires.0, c.requires.1)
 
 pub overflow_add-result-3 : goal.overflow_add-result-3
-overflow_add-result-3 c = let p = c.requires in omega (arith, (few (goal.at.overflow_add-result-3 c).After-digits-2).0, (few (goal.at.overflow_add-result-3 c).After-digits-2).1, p.0, p.1)
+overflow_add-result-3 c =
+    let f = few (goal.at.overflow_add-result-3 c).After-digits-2 in
+    omega (arith, f.0, f.1, c.requires.0, c.requires.1)
 
 pub overflow_add-result-4 : goal.overflow_add-result-4
-overflow_add-result-4 c = let p = c.requires in omega (arith, (few (goal.at.overflow_add-result-4 c).After-digits-2).0, (few (goal.at.overflow_add-result-4 c).After-digits-2).1, p.0, p.1)
+overflow_add-result-4 c =
+    let f = few (goal.at.overflow_add-result-4 c).After-digits-2 in
+    omega (arith, f.0, f.1, c.requires.0, c.requires.1)

@@ -15,12 +15,11 @@ bounds-out-at c =
     omega (arith, c.requires, c.loop-i.invariant.2, c.loop-i-test.true)
 
 pub loop-i-preserved : goal.loop-i-preserved
-loop-i-preserved c =
-    (
-      omega (arith, c.loop-i-test.true),
-      copy_turn c.loop-i.out c.args.word.now c.args.at c.loop-i.i c.loop-i-test.true ∙ c.loop-i.invariant.1,
-      rw length-set c.loop-i.invariant.2,
-    )
+loop-i-preserved c = (
+  omega (arith, c.loop-i-test.true),
+  copy_turn c.loop-i.out c.args.word.now c.args.at c.loop-i.i c.loop-i-test.true ∙ c.loop-i.invariant.1,
+  rw length-set c.loop-i.invariant.2,
+)
 
 pub shape_of-out : goal.shape_of-out
 shape_of-out c = c.loop-i.invariant.2

@@ -6,7 +6,10 @@ use lib.Seq.{sets}
 use Rattle.text.proofs.lines.write.Given as goal
 
 abbrev pub invariant-loop-i : goal.invariant-loop-i
-invariant-loop-i l = (l.i ≤ length l.word) × (sets l.out (l.at + l.i) (drop l.i l.word) ≡ sets l.initial.out l.at l.word) × (length l.out ≡ length l.initial.out)
+invariant-loop-i l =
+    (l.i ≤ length l.word)
+    × (sets l.out (l.at + l.i) (drop l.i l.word) ≡ sets l.initial.out l.at l.word)
+    × (length l.out ≡ length l.initial.out)
 
 abbrev pub decreases-loop-i : goal.decreases-loop-i
 decreases-loop-i l = length l.word - l.i

@@ -37,7 +37,12 @@ returns-then-n-lt10 c = rw (one_digit _ c.if-n-lt10.true, c.digit.ensures)
 
 pub returns-then-n-lt100 : goal.returns-then-n-lt100
 returns-then-n-lt100 c =
-    rw (two_digits _ c.if-n-lt10.false c.if-n-lt100.true, c.digit-then-n-lt100.ensures, c.digit-then-n-lt100-2.ensures, add-one)
+    rw (
+      two_digits _ c.if-n-lt10.false c.if-n-lt100.true,
+      c.digit-then-n-lt100.ensures,
+      c.digit-then-n-lt100-2.ensures,
+      add-one,
+    )
 
 pub returns-else-n-lt100 : goal.returns-else-n-lt100
 returns-else-n-lt100 c =

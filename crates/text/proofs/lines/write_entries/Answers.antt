@@ -1,11 +1,7 @@
-use mathlib.Core.Path.{◌≡◌, refl, sym, ap, ◌∙◌}
-use Prim.Native.Nat.{◌+◌, ◌-◌, ◌≤◌}
+use mathlib.Core.Path.{refl, sym, ap, ◌∙◌}
 use native.Mathlib.Omega.{arith}
-use lib.ListN.{length, drop}
 use lib.Seq.{sets}
-use Rattle.tables.specs.Values.{entries_of}
 use Rattle.tables.proofs.Checking.{good_few, width_most}
-use Rattle.text.specs.Text.{entries_text}
 use Rattle.text.proofs.Printing.{entries_turn}
 use Rattle.text.proofs.Writing.{left_length, entries_end}
 use borrow.Author.Rules.{rules}
@@ -13,6 +9,14 @@ use Rattle.text.proofs.lines.write_entries.Goals as goal
 
 pub loop-i-init : goal.loop-i-init
 loop-i-init c = (omega arith, refl, c.requires.1, refl)
+
+pub offset_bounds-t-i : goal.offset_bounds-t-i
+offset_bounds-t-i c =
+    let few = good_few c.requires.0 in search (rules, few)
+
+pub offset_bounds-t-i-in-loop-i : goal.offset_bounds-t-i-in-loop-i
+offset_bounds-t-i-in-loop-i c =
+    let few = good_few c.requires.0 in search (rules, few)
 
 pub bounds-t-i : goal.bounds-t-i
 bounds-t-i c =

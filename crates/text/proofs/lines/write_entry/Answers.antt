@@ -1,13 +1,12 @@
 use mathlib.Core.Path.{◌≡◌, sym, ap, ◌∙◌}
-use Prim.Native.Nat.{ℕ, ◌+◌, ◌-◌, ◌≤◌, ◌<◌}
+use Prim.Native.Nat.{ℕ, ◌+◌, ◌-◌, ◌<◌}
 use native.Mathlib.Omega.{arith}
-use borrow.Author.Rules.{rules}
 use lib.ListN.{get_or, length-set}
 use Rattle.words.specs.declared.Entry.{Entry}
 use Rattle.words.specs.Words.{string}
 use Rattle.words.proofs.Codec.{string_length}
 use Rattle.text.specs.Text.{entry_text}
-use Rattle.text.proofs.Printing.{Stands, stands_start, stands_turn, printed_end, character_at, newline_at}
+use Rattle.text.proofs.Printing.{stands_start, stands_turn, printed_end, character_at, newline_at}
 use Rattle.text.proofs.lines.write_entry.Goals as goal
 
 pub loop-here-init : goal.loop-here-init

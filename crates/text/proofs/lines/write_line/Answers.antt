@@ -5,21 +5,22 @@ use native.Mathlib.Omega.{arith}
 use lib.ListN.{length, length-set}
 use Rattle.text.specs.Text.{decimal}
 use Rattle.text.proofs.Writing.{line_length, line_written}
-use borrow.Author.Rules.{rules}
 use Rattle.text.proofs.lines.write_line.Goals as goal
 use Rattle.text.proofs.lines.write_line.Goals.{After-digits-2, Start}
 
 -- the line fits, part by part
-fits : (s : Start) → let a = c.args in
+fits : (s : Start) → let a = s.args in
     a.at + (length a.v.now + (length (decimal a.a) + (length a.w.now + (length (decimal a.b) + 1))))
     ≤ length a.out.now
-fits s = let a = c.args in omega (arith, line_length a.v.now a.w.now a.a a.b, c.requires.2)
+fits s = let a = s.args in omega (arith, line_length a.v.now a.w.now a.a a.b, s.requires.2)
 
 -- the same by the digits that were counted
 line_fits : (c : After-digits-2) → let a = c.args in
     a.at + (length a.v.now + (c.digits.result + (length a.w.now + (c.digits-2.result + 1))))
     ≤ length a.out.now
-line_fits c = omega (arith, fits c.before.before.before.before.before, c.digits.ensures, c.digits-2.ensures)
+line_fits c =
+    let a = c.args in
+    omega (arith, line_length a.v.now a.w.now a.a a.b, c.requires.2, c.digits.ensures, c.digits-2.ensures)
 
 pub overflow_add-first : goal.overflow_add-first
 overflow_add-first c = omega (arith, fits (goal.at.overflow_add-first c).Start)
@@ -42,37 +43,36 @@ write_decimal-requires c =
 
 pub write-requires-2 : goal.write-requires-2
 write-requires-2 c =
-    omega (arith, line_fits (goal.at.write-requires-2 c).After-digits-2, c.write.kept.0, c.write_decimal.auto.out)
+    omega (arith, line_fits (goal.at.write-requires-2 c).After-digits-2, c.write.auto.out, c.write_decimal.auto.out)
 
 pub write_decimal-requires-2 : goal.write_decimal-requires-2
-write_decimal-requires-2 c =
-    (
-      c.requires.1,
-      omega (
-        arith,
-        line_fits (goal.at.write_decimal-requires-2 c).After-digits-2,
-        c.write.kept.0,
-        c.write_decimal.kept.0,
-        c.write-2.auto.out,
-      ),
-    )
+write_decimal-requires-2 c = (
+  c.requires.1,
+  omega (
+    arith,
+    line_fits (goal.at.write_decimal-requires-2 c).After-digits-2,
+    c.write.auto.out,
+    c.write_decimal.auto.out,
+    c.write-2.auto.out,
+  ),
+)
 
 pub bounds-out-end : goal.bounds-out-end
 bounds-out-end c =
     omega (
       arith,
       line_fits (goal.at.bounds-out-end c).After-digits-2,
-      c.write.kept.0,
-      c.write_decimal.kept.0,
-      c.write-2.kept.0,
+      c.write.auto.out,
+      c.write_decimal.auto.out,
+      c.write-2.auto.out,
       c.write_decimal-2.auto.out,
     )
 
 pub shape_of-out : goal.shape_of-out
 shape_of-out c =
     rw length-set
-    (c.write_decimal-2.auto.out ∙ c.write-2.kept.0 ∙ c.write_decimal.kept.0
-    ∙ c.write.kept.0)
+    (c.write_decimal-2.auto.out ∙ c.write-2.auto.out ∙ c.write_decimal.auto.out
+    ∙ c.write.auto.out)
 
 pub returns : goal.returns
 returns c =

@@ -1,19 +1,17 @@
 -- Each answer has its own text: the table after the equation, or the line of the refusal.
 use native.Mathlib.Omega.{arith}
 use Rattle.text.specs.Lines.{equation_text}
-use borrow.Author.Rules.{rules}
 use Rattle.text.proofs.runs.write_equation.Goals as goal
 
 pub write_table-requires : goal.write_table-requires
 unfolding equation_text
-write_table-requires c =
-    (
-      c.requires.0,
-      omega arith,
-      c.requires.1,
-      c.requires.2,
-      rw c.in-Accepted.is at c.requires.3,
-    )
+write_table-requires c = (
+  c.requires.0,
+  omega arith,
+  c.requires.1,
+  c.requires.2,
+  rw c.in-Accepted.is at c.requires.3,
+)
 
 pub write_refused-requires : goal.write_refused-requires
 write_refused-requires c =

@@ -3,7 +3,6 @@ use mathlib.Core.Path.{◌∙◌}
 use native.Mathlib.Nat.{zero-add}
 use native.Mathlib.Omega.{arith}
 use Rattle.tables.proofs.Checking.{width_most}
-use borrow.Author.Rules.{rules}
 use Rattle.text.proofs.runs.write_first.Goals as goal
 
 pub write_table-requires : goal.write_table-requires

@@ -6,7 +6,6 @@ use Rattle.text.proofs.Writing.{decimal_most, line_length}
 use Rattle.text.specs.Lines.{eq, refused, equation_text}
 use Rattle.text.proofs.PartByPart.{as_measured, as_written}
 use Rattle.text.proofs.Blocks.{code_small}
-use borrow.Author.Rules.{rules}
 use Rattle.text.proofs.runs.write_refused.Goals as goal
 
 pub line_length-requires : goal.line_length-requires

@@ -9,6 +9,12 @@ use Rattle.text.proofs.Blocks.{block_length, entries_most, block_written}
 use borrow.Author.Rules.{rules}
 use Rattle.text.proofs.runs.write_table.Goals as goal
 
+pub overflow_cast-n : goal.overflow_cast-n
+overflow_cast-n c = let few = good_few c.requires.3 in search (rules, few)
+
+pub overflow_cast-n-in-Write : goal.overflow_cast-n-in-Write
+overflow_cast-n-in-Write c = let few = good_few c.requires.3 in search (rules, few)
+
 pub line_length-requires : goal.line_length-requires
 line_length-requires c = (c.requires.1, omega arith)
 
