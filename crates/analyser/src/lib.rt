@@ -1,6 +1,7 @@
 // The analyser for C: every call of include/sharing.h. Each returns 0 where it is accepted, else the number of the refusal; after
 // a refusal every byte that was lent holds what it held. A side is a number: 0 is positive, any other negative.
 #![tactic(auto)]
+
 ghost use Rattle.std.specs.Prelude.{◌≡◌};
 ghost use Rattle.operations.specs.Operations.{side_numbered, convert_call};
 ghost use Rattle.forms.specs.declared.Extent.TheVariants.{Whole};

@@ -1,2 +1,0 @@
-pub mod SameOutput
-pub mod StepRows
