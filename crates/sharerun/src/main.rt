@@ -26,10 +26,25 @@ fn read_full<R: Read>(from: &mut R, into: &mut [u8]) -> io::Result<usize>
     Ok(done)
 }
 
+// Reads the input, and writes its report. `input` and `text` are room.
+fn answer<R: Read, W: Write>(
+    from: &mut R,
+    to: &mut W,
+    input: &mut [u8],
+    text: &mut [u8],
+) -> io::Result<()> {
+    let n = read_full(from, input)?;
+    let r = report::report(&input[..n], text);
+    to.write_all(&text[..r.size])
+}
+
 fn main(rt: HostRuntime) -> io::Result<()> {
     let mut input = [0u8; INPUT];
     let mut text = [0u8; TEXT];
-    let n = read_full(&mut rt.reader(), &mut input)?;
-    let r = report::report(&input[..n], &mut text);
-    io::writer(&rt).write_all(&text[..r.size])
+    answer(
+        &mut rt.reader(),
+        &mut io::writer(&rt),
+        &mut input,
+        &mut text,
+    )
 }
