@@ -437,8 +437,7 @@ static bool read_item(reader *r) {
         return read_entry(r);
     if (begins_equation(peek(&r->rest)))
         return read_equation(r);
-    return cannot(r, "an entry of 0, 1 and *, the word free or goal, or an equation such as X1 = "
-                     "f(X2)");
+    return cannot(r, "an entry of 0, 1 and *, the word free, or an equation such as X1 = f(X2)");
 }
 
 /* The next line, without its end, which is LF or CRLF. */

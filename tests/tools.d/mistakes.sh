@@ -6,7 +6,7 @@
 variables="the number of variables, 1 to 32, or their names, each a capital letter or an underscore and then letters, digits and underscores"
 further="a further variable, with a capital letter or an underscore first"
 first_line="a line such as: vars 3, or: vars Baptism Wedding Parish"
-item="an entry of 0, 1 and *, the word free or goal, or an equation such as X1 = f(X2)"
+item="an entry of 0, 1 and *, the word free, or an equation such as X1 = f(X2)"
 stop="the end of the line, after a full stop or without one: one equation a line"
 term="a term, in the same line: a variable, a symbol such as a or f(X), a quoted atom, a number or a list"
 equals="'=', as in X1 = f(X2) or X1 = -1"
