@@ -25,7 +25,7 @@ pub struct Cursor {
     pub at: usize,
 }
 
-// The most equations of a form (most-equations).
+// The most equations of a form (most_equations).
 const EQUATIONS: usize = 64;
 
 // ---- The walk

@@ -16,10 +16,10 @@ use running::Running;
 use tables::{Answer, Refusal, Table};
 use text::{Pass, Reported};
 
-// The most bytes of an input (most-input).
+// The most bytes of an input (most_input).
 const INPUT: usize = 8192;
 
-// No text of a run has more bytes (most-text).
+// No text of a run has more bytes (most_text).
 const TEXT: usize = 552500;
 
 // The length of the word `refused `.

@@ -49,7 +49,7 @@ pub fn start(side: u32, b: &[u8]) -> Running
     }
 }
 
-// The largest count of accepted equations (most-applied).
+// The largest count of accepted equations (most_applied).
 const APPLIED: u32 = 4294967295;
 
 // One more accepted equation. The count stays at its largest number.
