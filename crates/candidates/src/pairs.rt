@@ -103,8 +103,8 @@ pub fn pairs(
     pairs_unseen(op, a, an, b, bn, l, list, row)
 }
 
-// The relevant entries: each entry's meets with the strings that have 1 at a variable of the set m. `row` is room.
-pub fn relevant(
+// The same as `relevant`, the list grown by the meets of one entry at a time. `row` is room.
+pub fn relevant_by_entry(
     t: &[u64; 256],
     tn: usize,
     l: u32,
@@ -136,8 +136,8 @@ pub fn relevant(
     Grown::Count(n)
 }
 
-// The irrelevant entries: each entry's meet with the string that has 0 at all variables of the set m. `row` is room.
-pub fn irrelevant(
+// The same as `irrelevant`, all meets in one row. `row` is room.
+pub fn irrelevant_in_row(
     t: &[u64; 256],
     tn: usize,
     l: u32,
@@ -154,4 +154,46 @@ pub fn irrelevant(
     let whole: &[u64] = &*list;
     let k = crate::rows::pair_row(Pairing::Meet, t, tn, (m as u64) << 32, row);
     lists::growth::grow_each(list, 0, l, row, k)
+}
+
+// The relevant entries: each entry's meets with the strings that have 1 at a variable of the set m. `other` and `row` are
+// room.
+pub fn relevant(
+    t: &[u64; 256],
+    tn: usize,
+    l: u32,
+    m: u32,
+    list: &mut [u64; 256],
+    other: &mut [u64; 256],
+    row: &mut [u64; 256],
+) -> Grown
+    requires { (tn ≤ 256) × (l ≤ 32) }
+    ensures within { Within result }
+    ensures made { (τ : Entries) (k : Bits) → Holds l t.now tn τ → length k ≡ l → m ≡ set_word k
+        → Makes l list.new result (relevant_list k τ) }
+{
+    let k = crate::rows::ones_row(m, l, other);
+    pairs(Pairing::Meet, t, tn, other, k, l, list, row)
+}
+
+// The irrelevant entries: each entry's meet with the string that has 0 at all variables of the set m. `other` and `row` are
+// room.
+pub fn irrelevant(
+    t: &[u64; 256],
+    tn: usize,
+    l: u32,
+    m: u32,
+    list: &mut [u64; 256],
+    other: &mut [u64; 256],
+    row: &mut [u64; 256],
+) -> Grown
+    requires { (tn ≤ 256) × (l ≤ 32) }
+    ensures within { Within result }
+    ensures made { (τ : Entries) (k : Bits) → Holds l t.now tn τ → length k ≡ l → m ≡ set_word k
+        → Makes l list.new result (irrelevant_list k τ) }
+{
+    // As a slice its length is known.
+    let whole: &[u64] = &*other;
+    other[0] = (m as u64) << 32;
+    pairs(Pairing::Meet, t, tn, other, 1, l, list, row)
 }

@@ -48,8 +48,8 @@ fn positive_closed_cross(
     ensures made { OfSets l t.entry.now tn mx mt (λ τ x t. Makes l list.new result (positive_closed_cross x t τ)) }
 {
     let mut b = [0u64; 256];
-    match candidates::pairs::relevant(t, tn, l, mx, list, row) {
-        Grown::Count(an) => match candidates::pairs::relevant(t, tn, l, mt, &mut b, row) {
+    match candidates::pairs::relevant_by_entry(t, tn, l, mx, list, row) {
+        Grown::Count(an) => match candidates::pairs::relevant_by_entry(t, tn, l, mt, &mut b, row) {
             Grown::Count(bn) => closed_cross(list, an, &b, bn, l, t, row),
             Grown::Full => Grown::Full,
         },
@@ -72,7 +72,7 @@ pub fn positive_in_place(
 {
     let mut crossed = [0u64; 256];
     let mut row = [0u64; 256];
-    match candidates::pairs::irrelevant(t, tn, l, mx | mt, list, &mut row) {
+    match candidates::pairs::irrelevant_in_row(t, tn, l, mx | mt, list, &mut row) {
         Grown::Count(n) => {
             match positive_closed_cross(t, tn, l, mx, mt, &mut crossed, &mut row) {
                 Grown::Count(k) => lists::growth::grow_each(list, n, l, &crossed, k),

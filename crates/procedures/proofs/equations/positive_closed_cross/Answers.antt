@@ -9,31 +9,31 @@ use Rattle.procedures.proofs.equations.positive_closed_cross.Goals as goal
 
 pub closed_cross-requires : goal.closed_cross-requires
 closed_cross-requires c = (
-  within_count c.relevant.ensures.within c.in-Count.is,
-  within_count c.relevant-in-Count.ensures.within c.in-Count-relevant.is,
+  within_count c.relevant_by_entry.ensures.within c.in-Count.is,
+  within_count c.relevant_by_entry-in-Count.ensures.within c.in-Count-relevant_by_entry.is,
   omega arith,
 )
 
-pub returns-in-Count-relevant : goal.returns-in-Count-relevant
+pub returns-in-Count-relevant_by_entry : goal.returns-in-Count-relevant_by_entry
 unfolding positive_closed_cross
-returns-in-Count-relevant c =
+returns-in-Count-relevant_by_entry c =
     record {
       within = c.closed_cross.ensures.within;
       made = λ τ x t h ex et ix it.
-          makes_then (c.relevant.ensures.made τ x h ex ix) (λ A. relevant t τ >>= closed_cross A) c.in-Count.is
+          makes_then (c.relevant_by_entry.ensures.made τ x h ex ix) (λ A. relevant t τ >>= closed_cross A) c.in-Count.is
           (λ A p.
-          makes_then (c.relevant-in-Count.ensures.made τ t h et it) (closed_cross A) c.in-Count-relevant.is
+          makes_then (c.relevant_by_entry-in-Count.ensures.made τ t h et it) (closed_cross A) c.in-Count-relevant_by_entry.is
           (λ B q. c.closed_cross.ensures.made A B p q));
     }
 
-pub returns-in-Full-relevant : goal.returns-in-Full-relevant
+pub returns-in-Full-relevant_by_entry : goal.returns-in-Full-relevant_by_entry
 unfolding positive_closed_cross
-returns-in-Full-relevant c =
+returns-in-Full-relevant_by_entry c =
     record {
       within = tt;
       made = λ τ x t h ex et ix it.
-          makes_then (c.relevant.ensures.made τ x h ex ix) (λ A. relevant t τ >>= closed_cross A) c.in-Count.is
-          (λ A p. stops_then (c.relevant-in-Count.ensures.made τ t h et it) (closed_cross A) c.in-Full-relevant.is);
+          makes_then (c.relevant_by_entry.ensures.made τ x h ex ix) (λ A. relevant t τ >>= closed_cross A) c.in-Count.is
+          (λ A p. stops_then (c.relevant_by_entry-in-Count.ensures.made τ t h et it) (closed_cross A) c.in-Full-relevant_by_entry.is);
     }
 
 pub returns-in-Full : goal.returns-in-Full
@@ -42,6 +42,6 @@ returns-in-Full c =
     record {
       within = tt;
       made = λ τ x t h ex et ix it.
-          stops_then (c.relevant.ensures.made τ x h ex ix) (λ A. relevant t τ >>= closed_cross A)
+          stops_then (c.relevant_by_entry.ensures.made τ x h ex ix) (λ A. relevant t τ >>= closed_cross A)
           c.in-Full.is;
     }

@@ -13,7 +13,7 @@ use Rattle.procedures.proofs.equations.positive_in_place.Goals as goal
 
 pub grow_each-requires : goal.grow_each-requires
 grow_each-requires c = (
-  within_count c.irrelevant.ensures.within c.in-Count.is,
+  within_count c.irrelevant_in_row.ensures.within c.in-Count.is,
   omega arith,
   within_count c.positive_closed_cross.ensures.within c.in-Count-positive_closed_cross.is,
 )
@@ -25,7 +25,7 @@ returns-in-Count-positive_closed_cross c =
       made = λ τ x t h ex et ix it.
           rw (positive_regrouped x t τ)
           (makes_then
-          (c.irrelevant.ensures.made τ (or x t) h (or_length x t _ ex et) (rw (ix, it) (sym (set_word_or x t))))
+          (c.irrelevant_in_row.ensures.made τ (or x t) h (or_length x t _ ex et) (rw (ix, it) (sym (set_word_or x t))))
           (λ I. positive_closed_cross x t τ >>= grow_all I) c.in-Count.is
           (λ I p.
           makes_then (c.positive_closed_cross.ensures.made τ x t h ex et ix it) (grow_all I) c.in-Count-positive_closed_cross.is
@@ -39,7 +39,7 @@ returns-in-Full-positive_closed_cross c =
       made = λ τ x t h ex et ix it.
           rw (positive_regrouped x t τ)
           (makes_then
-          (c.irrelevant.ensures.made τ (or x t) h (or_length x t _ ex et) (rw (ix, it) (sym (set_word_or x t))))
+          (c.irrelevant_in_row.ensures.made τ (or x t) h (or_length x t _ ex et) (rw (ix, it) (sym (set_word_or x t))))
           (λ I. positive_closed_cross x t τ >>= grow_all I) c.in-Count.is
           (λ I p.
           stops_then (c.positive_closed_cross.ensures.made τ x t h ex et ix it) (grow_all I)
@@ -53,6 +53,6 @@ returns-in-Full c =
       made = λ τ x t h ex et ix it.
           rw (positive_regrouped x t τ)
           (stops_then
-          (c.irrelevant.ensures.made τ (or x t) h (or_length x t _ ex et) (rw (ix, it) (sym (set_word_or x t))))
+          (c.irrelevant_in_row.ensures.made τ (or x t) h (or_length x t _ ex et) (rw (ix, it) (sym (set_word_or x t))))
           (λ I. positive_closed_cross x t τ >>= grow_all I) c.in-Full.is);
     }

@@ -11,7 +11,7 @@ use Rattle.lists.specs.WorkingLists.{Holds}
 use Rattle.lists.proofs.SoFar.{SoFar, Any}
 use Rattle.candidates.specs.declared.Pairing.TheVariants.{Meet}
 use Rattle.candidates.proofs.ProceduresAsFolds.{pair_step}
-use Rattle.candidates.proofs.pairs.relevant.Given as goal
+use Rattle.candidates.proofs.pairs.relevant_by_entry.Given as goal
 
 abbrev pub invariant-loop-i : goal.invariant-loop-i
 invariant-loop-i l = (l.i ≤ l.tn) × (l.n ≤ 256)
