@@ -8,21 +8,22 @@ use borrow.Author.Tests.{leb-true}
 use lib.Dec.{leb, eqb}
 use lib.ListN.{length, take}
 use lib.Seq.{take_at}
+use Rattle.std.specs.Prelude.{Ok, Err}
 use Rattle.model.specs.Tables.{Side}
 use Rattle.tables.specs.declared.Table.{Table}
 use Rattle.tables.specs.declared.Refusal.{Refusal}
 use Rattle.tables.specs.declared.Refusal.TheVariants as R
-use Rattle.tables.specs.declared.Answer.{Answer}
-use Rattle.tables.specs.declared.Answer.TheVariants.{Accepted, Refused}
+use Rattle.tables.specs.Refusals.{Answer}
+use Rattle.tables.specs.Refusals.{Accepted, Refused}
 use Rattle.tables.specs.declared.Answered.{Answered}
 use Rattle.tables.specs.Refusals.{if_accepted, member, one_of, Numbered}
 use Rattle.tables.specs.Values.{refuses, check_table, GoodTable}
 use Rattle.tables.proofs.Numbers.{refused_numbered, accepted_numbered, test_numbered}
-use Rattle.lists.specs.declared.values.Came.TheVariants as Came
+use Rattle.lists.specs.Comings as Came
 use Rattle.lists.specs.Comings.{Comes, turned}
 use Rattle.terms.specs.Checks.{most_tokens, Written, one_term, two_terms}
 use Rattle.operations.specs.Operations.{equation_call, unify_call, written_call}
-use Rattle.reasons.specs.declared.Verdict.TheVariants as J
+use Rattle.reasons.specs.Verdicts as J
 use Rattle.reasons.specs.Verdicts.{reason_call}
 use Rattle.codec.specs.Numbers.{numbers, with_zeros}
 use Rattle.codec.proofs.Laws.{length_words}
@@ -48,9 +49,50 @@ module _ {A : Type 0} (b : List ℕ) {a : Answered} (is : a ≡ read_table Whole
   unfolding after_read if_accepted
   read_accepted e = rw (answer_read e) (ap (λ (y : Answered). next y.table) is)
 
+-- What the reader answers is what comes after it, by its answer.
+module _ {A : Type 0} (stop : Refusal → A) where
+  stops_by : (a : Answer) (t : Table) {r : Refusal} (y : A) → if_accepted a Err (Ok t) ≡ Err r → stop r ≡ if_accepted a stop y
+  unfolding if_accepted
+  stops_by Accepted t y e = absurd (let z : ◌≡◌ {A = ℕ} 0 1 = cc in omega arith)
+  stops_by (Refused s) t {r} y e = let same : s ≡ r = cc in ap stop (sym same)
+
+  goes_on_by : (a : Answer) (t : Table) {u : Table} (next : Table → A) → if_accepted a Err (Ok t) ≡ Ok u
+      → next u ≡ if_accepted a stop (next t)
+  unfolding if_accepted
+  goes_on_by Accepted t {u} next e = let same : t ≡ u = cc in ap next (sym same)
+  goes_on_by (Refused s) t next e = absurd (let z : ◌≡◌ {A = ℕ} 0 1 = cc in omega arith)
+
+-- What the reader answers, as one value.
+module _ (b : List ℕ) {a : Answered} (is : a ≡ read_table Whole b) where
+  pub whole_refused : {r : Refusal} → a.answer ≡ Refused r → Err r ≡ after_read b Err Ok
+  unfolding after_read if_accepted
+  whole_refused e = rw (sym is, e)
+
+  pub whole_read : a.answer ≡ Accepted → Ok a.table ≡ after_read b Err Ok
+  unfolding after_read if_accepted
+  whole_read e = rw (sym is, e)
+
+-- What comes after the table, where it was read as one value.
+module _ {A : Type 0} (b : List ℕ) (stop : Refusal → A) (next : Table → A) where
+  pub whole_stops : {r : Refusal} → Err r ≡ after_read b Err Ok → stop r ≡ after_read b stop next
+  unfolding after_read
+  whole_stops e = stops_by stop _ _ _ (sym e)
+
+  pub whole_goes_on : {t : Table} → Ok t ≡ after_read b Err Ok → next t ≡ after_read b stop next
+  unfolding after_read
+  whole_goes_on e = goes_on_by stop _ _ next (sym e)
+
+accepted_by : (a : Answer) (t : Table) {u : Table} → if_accepted a Err (Ok t) ≡ Ok u → (a ≡ Accepted) × (t ≡ u)
+unfolding if_accepted
+accepted_by Accepted t {u} e = let same : t ≡ u = cc in (refl, same)
+accepted_by (Refused s) t e = absurd (let z : ◌≡◌ {A = ℕ} 0 1 = cc in omega arith)
+
 -- The table that was read is good.
-pub read_table_good : (b : List ℕ) {a : Answered} → a ≡ read_table Whole b → a.answer ≡ Accepted → GoodTable a.table
-read_table_good b {a} is e = (read_good Plain Whole b a.table (sym is ∙ λ i. record { answer = e i; table = a.table })).0
+pub read_table_good : (b : List ℕ) {t : Table} → Ok t ≡ after_read b Err Ok → GoodTable t
+unfolding after_read
+read_table_good b {t} e =
+    let p = accepted_by (read_table Whole b).answer (read_table Whole b).table (sym e) in
+    (read_good Plain Whole b t (λ i. record { answer = p.0 i; table = p.1 i })).0
 
 -- ---- An equation as bytes
 

@@ -7,12 +7,12 @@ use lib.ListN.{length}
 use Rattle.tables.specs.declared.Table.{Table}
 use Rattle.tables.specs.declared.Refusal.{Refusal}
 use Rattle.tables.specs.declared.Refusal.TheVariants as R
-use Rattle.tables.specs.declared.Answer.{Answer}
-use Rattle.tables.specs.declared.Answer.TheVariants.{Accepted, Refused}
+use Rattle.tables.specs.Refusals.{Answer}
+use Rattle.tables.specs.Refusals.{Accepted, Refused}
 use Rattle.tables.specs.declared.Answered.{Answered}
 use Rattle.tables.specs.Refusals.{refusal_number, answer_number, if_accepted}
 use Rattle.tables.specs.Values.{table_of, zero_table, accepts, refuses, good_width, check_table}
-use Rattle.lists.specs.declared.values.Came.{Came}
+use Rattle.lists.specs.Comings.{Coming}
 use Rattle.lists.specs.Comings.{Comes, turned, stayed, counted}
 use Rattle.forms.specs.declared.Layout.{Layout}
 use Rattle.forms.specs.TableForms.{form_of, form_answer, written}
@@ -63,7 +63,7 @@ module _ (f : Layout) (out : List ℕ) {a : Answered} where
 -- ---- What came of a call
 
 -- What came can be written, where the table of an accepted answer has 1 to 32 variables.
-pub came_writable : {l : ℕ} {list : List ℕ} {came : Came} {a : Answered} → Comes l zero_table list came a
+pub came_writable : {l : ℕ} {list : List ℕ} {came : Coming} {a : Answered} → Comes l zero_table list came a
     → ((t : Table) → a ≡ accepts t → good_width l ≡ true) → Writable l list came
 came_writable (turned r) w = tt
 came_writable stayed w = tt

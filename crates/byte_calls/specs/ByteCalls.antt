@@ -5,18 +5,18 @@ use Rattle.model.specs.Tables.{Side}
 use Rattle.tables.specs.declared.Table.{Table}
 use Rattle.tables.specs.declared.Refusal.{Refusal}
 use Rattle.tables.specs.declared.Refusal.TheVariants as R
-use Rattle.tables.specs.declared.Answer.{Answer}
-use Rattle.tables.specs.declared.Answer.TheVariants.{Accepted, Refused}
+use Rattle.tables.specs.Refusals.{Answer}
+use Rattle.tables.specs.Refusals.{Accepted, Refused}
 use Rattle.tables.specs.declared.Answered.{Answered}
 use Rattle.tables.specs.Refusals.{if_accepted}
 use Rattle.tables.specs.Values.{zero_table, refuses, check_table}
 use Rattle.terms.specs.Checks.{most_tokens, Written, one_term, two_terms}
 use Rattle.operations.specs.Operations.{equation_call, unify_call, join_call, projection_call, change_side_call}
-use Rattle.questions.specs.declared.Reply.{Reply}
-use Rattle.questions.specs.declared.Reply.TheVariants as Q
+use Rattle.questions.specs.Replies.{Reply}
+use Rattle.questions.specs.Replies as Q
 use Rattle.questions.specs.Replies.{equal_call, ground_call, independent_call}
-use Rattle.reasons.specs.declared.Verdict.{Verdict}
-use Rattle.reasons.specs.declared.Verdict.TheVariants as J
+use Rattle.reasons.specs.Verdicts.{Verdict}
+use Rattle.reasons.specs.Verdicts as J
 use Rattle.reasons.specs.Verdicts.{reason_call}
 use Rattle.codec.specs.Numbers.{numbers}
 use Rattle.forms.specs.declared.Extent.TheVariants.{Whole}

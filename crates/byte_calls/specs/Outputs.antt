@@ -1,13 +1,13 @@
 -- What a call on byte buffers hands back (01, "Written form" and "Refusals"): 9 comes last, and a refusal leaves every byte.
 use Rattle.std.specs.Prelude.{◌≡◌, true, List, ℕ, length}
 use Rattle.model.specs.Growth.{Entries}
-use Rattle.tables.specs.declared.Answer.{Answer}
-use Rattle.tables.specs.declared.Answer.TheVariants.{Refused}
+use Rattle.tables.specs.Refusals.{Answer}
+use Rattle.tables.specs.Refusals.{Refused}
 use Rattle.tables.specs.declared.Answered.{Answered}
 use Rattle.tables.specs.Refusals.{answer_number, if_accepted}
 use Rattle.tables.specs.Values.{good_width}
-use Rattle.lists.specs.declared.values.Came.{Came}
-use Rattle.lists.specs.declared.values.Came.TheVariants as C
+use Rattle.lists.specs.Comings.{Coming}
+use Rattle.lists.specs.Comings as C
 use Rattle.lists.specs.WorkingLists.{Holds}
 use Rattle.forms.specs.declared.Layout.{Layout}
 use Rattle.forms.specs.declared.Layout.TheVariants.{Plain}
@@ -26,7 +26,7 @@ unfoldable pub output_bytes_as : Layout → Answered → List ℕ → List ℕ
 output_bytes_as f a out = written (output_answer_as f a out) (form_of f a.table) out
 
 -- What came of a call can be written: a count is that of entries of 1 to 32 positions that the list holds.
-abbrev pub Writable : ℕ → List ℕ → Came → Type 0
+abbrev pub Writable : ℕ → List ℕ → Coming → Type 0
 Writable l list (C.Refused r) = Unit {0}
 Writable l list C.Same = Unit {0}
 Writable l list (C.Count n) = (good_width l ≡ true) × ((τ : Entries) × Holds l list n τ)

@@ -3,8 +3,8 @@
 
 pub mod outputs; // what a call hands back: number, form, word, part
 
-ghost use Rattle.std.specs.Prelude.{◌≡◌};
-ghost use Rattle.tables.specs.declared.Answer.TheVariants.{Accepted};
+ghost use Rattle.std.specs.Prelude.{◌≡◌, Ok, Err};
+ghost use Rattle.tables.specs.Refusals.{Accepted};
 ghost use Rattle.tables.specs.Values.{parts, GoodTable};
 ghost use Rattle.lists.specs.Comings.{Bounded};
 ghost use Rattle.operations.specs.Operations.{side_of, convert_call, equation_call, unify_call, CameOf};
@@ -13,26 +13,25 @@ ghost use Rattle.byte_calls.specs.Outputs.{output_number_as, output_bytes_as, ou
 ghost use Rattle.byte_calls.specs.ByteCalls.{check_bytes, term_call, change_side_bytes, equation_bytes, join_bytes};
 ghost use Rattle.byte_calls.specs.ByteCalls.{projection_bytes, equal_bytes, ground_bytes, independent_bytes};
 ghost use Rattle.byte_calls.specs.ByteCalls.{check_both_bytes, tokens_of, terms_call, unify_bytes};
-ghost use Rattle.byte_calls.specs.ByteCalls.{term_reason, reason_bytes};
+ghost use Rattle.byte_calls.specs.ByteCalls.{term_reason, reason_bytes, after_read};
 
 use forms::{Extent, Layout};
 use lists::values::Came;
 use operations::Side;
-use questions::Reply;
 use reasons::Verdict;
-use tables::{Answer, Answered, Refusal, Table};
+use tables::{Answered, Refusal, Table};
 
 // The bytes of a term handed over by itself: 7 where half the length, rounded down, is above 1024; 1 where it is odd.
-fn check_bytes(term: &[u8]) -> Answer
+fn check_bytes(term: &[u8]) -> Result<(), Refusal>
     ensures { result ≡ check_bytes term.now }
 {
     if codec::TOKENS < term.len() / 2 {
-        return Answer::Refused(Refusal::Long);
+        return Err(Refusal::Long);
     }
     if term.len() % 2 != 0 {
-        return Answer::Refused(Refusal::Torn);
+        return Err(Refusal::Torn);
     }
-    Answer::Accepted
+    Ok(())
 }
 
 // The equation Xx = the term of the bytes, short enough and of even length, on the parts of a checked table. Most terms are
@@ -46,7 +45,7 @@ fn equation_tokens<'a>(
     x: u32,
     term: &[u8],
     list: &mut [u64; 256],
-) -> Came
+) -> Result<Came, Refusal>
     requires { GoodTable (parts l n care.now value.now) × (check_bytes term.now ≡ Accepted) }
     ensures bounded { Bounded result }
     ensures comes { CameOf (parts l n care.now value.now) list.new result (λ t.
@@ -54,11 +53,11 @@ fn equation_tokens<'a>(
 {
     let k = term.len() / 2;
     if k <= codec::FEW {
-        let few = codec::few_tokens(term, k);
+        let few = codec::tokens_at::<{ codec::FEW }>(term, 0, k);
         let short: &[u16] = &few;
         return operations::equation_parts(side, l, n, care, value, x, &short[..k], list);
     }
-    let row = codec::tokens_at(term, 0, k);
+    let row = codec::tokens_at::<{ codec::TOKENS }>(term, 0, k);
     let tokens: &[u16] = &row;
     operations::equation_parts(side, l, n, care, value, x, &tokens[..k], list)
 }
@@ -73,18 +72,14 @@ pub fn equation_parts<'a>(
     x: u32,
     term: &[u8],
     list: &mut [u64; 256],
-) -> Came
+) -> Result<Came, Refusal>
     ensures bounded { Bounded result }
     ensures comes { CameOf (parts l n care.now value.now) list.new result (λ t.
         term_call (side_of side) t x term.now) }
 {
-    match tables::check_parts(l, n, care, value) {
-        Answer::Refused(r) => Came::Refused(r),
-        Answer::Accepted => match check_bytes(term) {
-            Answer::Refused(r) => Came::Refused(r),
-            Answer::Accepted => equation_tokens(side, l, n, care, value, x, term, list),
-        },
-    }
+    tables::check_parts(l, n, care, value)?;
+    check_bytes(term)?;
+    equation_tokens(side, l, n, care, value, x, term, list)
 }
 
 // The equation Xx = the term of the bytes, on a table value.
@@ -98,19 +93,19 @@ pub fn equation_term(side: Side, t: Table, x: u32, term: &[u8]) -> Answered
 
 // The bytes of two terms handed over by themselves: 7 where the halves of the lengths, each rounded down, are together above
 // 1024; 1 where the left length is odd, then the right.
-fn check_both_bytes(left: &[u8], right: &[u8]) -> Answer
+fn check_both_bytes(left: &[u8], right: &[u8]) -> Result<(), Refusal>
     ensures { result ≡ check_both_bytes left.now right.now }
 {
     if codec::TOKENS < left.len() / 2 + right.len() / 2 {
-        return Answer::Refused(Refusal::Long);
+        return Err(Refusal::Long);
     }
     if left.len() % 2 != 0 {
-        return Answer::Refused(Refusal::Torn);
+        return Err(Refusal::Torn);
     }
     if right.len() % 2 != 0 {
-        return Answer::Refused(Refusal::Torn);
+        return Err(Refusal::Torn);
     }
-    Answer::Accepted
+    Ok(())
 }
 
 // The terms of two rows of bytes, short enough and of even length, set equal on the parts of a checked table.
@@ -123,7 +118,7 @@ fn unify_tokens<'a>(
     left: &[u8],
     right: &[u8],
     list: &mut [u64; 256],
-) -> Came
+) -> Result<Came, Refusal>
     requires { GoodTable (parts l n care.now value.now) × (check_both_bytes left.now right.now ≡ Accepted) }
     ensures bounded { Bounded result }
     ensures comes { CameOf (parts l n care.now value.now) list.new result (λ t.
@@ -132,15 +127,15 @@ fn unify_tokens<'a>(
     let k = left.len() / 2;
     let m = right.len() / 2;
     if (k <= codec::FEW) & (m <= codec::FEW) {
-        let few = codec::few_tokens(left, k);
+        let few = codec::tokens_at::<{ codec::FEW }>(left, 0, k);
         let first: &[u16] = &few;
-        let other = codec::few_tokens(right, m);
+        let other = codec::tokens_at::<{ codec::FEW }>(right, 0, m);
         let second: &[u16] = &other;
         return operations::unify_parts(side, l, n, care, value, &first[..k], &second[..m], list);
     }
-    let row = codec::tokens_at(left, 0, k);
+    let row = codec::tokens_at::<{ codec::TOKENS }>(left, 0, k);
     let lefts: &[u16] = &row;
-    let others = codec::tokens_at(right, 0, m);
+    let others = codec::tokens_at::<{ codec::TOKENS }>(right, 0, m);
     let rights: &[u16] = &others;
     operations::unify_parts(side, l, n, care, value, &lefts[..k], &rights[..m], list)
 }
@@ -155,18 +150,14 @@ pub fn unify_parts<'a>(
     left: &[u8],
     right: &[u8],
     list: &mut [u64; 256],
-) -> Came
+) -> Result<Came, Refusal>
     ensures bounded { Bounded result }
     ensures comes { CameOf (parts l n care.now value.now) list.new result (λ t.
         terms_call (side_of side) t left.now right.now) }
 {
-    match tables::check_parts(l, n, care, value) {
-        Answer::Refused(r) => Came::Refused(r),
-        Answer::Accepted => match check_both_bytes(left, right) {
-            Answer::Refused(r) => Came::Refused(r),
-            Answer::Accepted => unify_tokens(side, l, n, care, value, left, right, list),
-        },
-    }
+    tables::check_parts(l, n, care, value)?;
+    check_both_bytes(left, right)?;
+    unify_tokens(side, l, n, care, value, left, right, list)
 }
 
 // The terms of two rows of bytes set equal, on a table value.
@@ -198,16 +189,22 @@ pub fn rewrite(from: Layout, extent: Extent, to: Layout, b: &[u8], out: &mut [u8
     outputs::write_listed(to, read, &list, out)
 }
 
+// The table that the bytes are the form of.
+fn read_whole(b: &[u8]) -> Result<Table, Refusal>
+    ensures { result ≡ after_read b.now Err Ok }
+{
+    let read = forms::read_table(Extent::Whole, b);
+    read.answer?;
+    Ok(read.table)
+}
+
 // The change of side of the table of the bytes.
 pub fn change_side(side: Side, b: &[u8]) -> Answered
     ensures { result ≡ change_side_bytes (side_of side) b.now }
 {
-    let read = forms::read_table(Extent::Whole, b);
-    let answer = read.answer;
-    let t = read.table;
-    match answer {
-        Answer::Refused(r) => tables::refused(r),
-        Answer::Accepted => operations::change_side(side, t),
+    match read_whole(b) {
+        Err(r) => tables::refused(r),
+        Ok(t) => operations::change_side(side, t),
     }
 }
 
@@ -215,12 +212,9 @@ pub fn change_side(side: Side, b: &[u8]) -> Answered
 pub fn equation(side: Side, b: &[u8], x: u32, term: &[u8]) -> Answered
     ensures { result ≡ equation_bytes (side_of side) b.now x term.now }
 {
-    let read = forms::read_table(Extent::Whole, b);
-    let answer = read.answer;
-    let t = read.table;
-    match answer {
-        Answer::Refused(r) => tables::refused(r),
-        Answer::Accepted => equation_term(side, t, x, term),
+    match read_whole(b) {
+        Err(r) => tables::refused(r),
+        Ok(t) => equation_term(side, t, x, term),
     }
 }
 
@@ -228,12 +222,9 @@ pub fn equation(side: Side, b: &[u8], x: u32, term: &[u8]) -> Answered
 pub fn unify(side: Side, b: &[u8], left: &[u8], right: &[u8]) -> Answered
     ensures { result ≡ unify_bytes (side_of side) b.now left.now right.now }
 {
-    let read = forms::read_table(Extent::Whole, b);
-    let answer = read.answer;
-    let t = read.table;
-    match answer {
-        Answer::Refused(r) => tables::refused(r),
-        Answer::Accepted => unify_terms(side, t, left, right),
+    match read_whole(b) {
+        Err(r) => tables::refused(r),
+        Ok(t) => unify_terms(side, t, left, right),
     }
 }
 
@@ -241,20 +232,12 @@ pub fn unify(side: Side, b: &[u8], left: &[u8], right: &[u8]) -> Answered
 pub fn join(side: Side, b: &[u8], c: &[u8]) -> Answered
     ensures { result ≡ join_bytes (side_of side) b.now c.now }
 {
-    let first = forms::read_table(Extent::Whole, b);
-    let answer = first.answer;
-    let t = first.table;
-    match answer {
-        Answer::Refused(r) => tables::refused(r),
-        Answer::Accepted => {
-            let second = forms::read_table(Extent::Whole, c);
-            let other = second.answer;
-            let u = second.table;
-            match other {
-                Answer::Refused(r) => tables::refused(r),
-                Answer::Accepted => operations::join(side, t, u),
-            }
-        }
+    match read_whole(b) {
+        Err(r) => tables::refused(r),
+        Ok(t) => match read_whole(c) {
+            Err(r) => tables::refused(r),
+            Ok(u) => operations::join(side, t, u),
+        },
     }
 }
 
@@ -262,87 +245,53 @@ pub fn join(side: Side, b: &[u8], c: &[u8]) -> Answered
 pub fn project(side: Side, b: &[u8], keep: u32) -> Answered
     ensures { result ≡ projection_bytes (side_of side) b.now keep }
 {
-    let read = forms::read_table(Extent::Whole, b);
-    let answer = read.answer;
-    let t = read.table;
-    match answer {
-        Answer::Refused(r) => tables::refused(r),
-        Answer::Accepted => operations::project(side, t, keep),
+    match read_whole(b) {
+        Err(r) => tables::refused(r),
+        Ok(t) => operations::project(side, t, keep),
     }
 }
 
 // Are two tables of bytes, of one side, equal in groups?
-pub fn equal(b: &[u8], c: &[u8]) -> Reply
+pub fn equal(b: &[u8], c: &[u8]) -> Result<bool, Refusal>
     ensures { result ≡ equal_bytes b.now c.now }
 {
-    let first = forms::read_table(Extent::Whole, b);
-    let answer = first.answer;
-    let t = first.table;
-    match answer {
-        Answer::Refused(r) => Reply::Refused(r),
-        Answer::Accepted => {
-            let second = forms::read_table(Extent::Whole, c);
-            let other = second.answer;
-            let u = second.table;
-            match other {
-                Answer::Refused(r) => Reply::Refused(r),
-                Answer::Accepted => questions::equal(t, u),
-            }
-        }
-    }
+    let t = read_whole(b)?;
+    let u = read_whole(c)?;
+    questions::equal(t, u)
 }
 
 // Is the variable Xx ground in the table of the bytes?
-pub fn ground(side: Side, b: &[u8], x: u32) -> Reply
+pub fn ground(side: Side, b: &[u8], x: u32) -> Result<bool, Refusal>
     ensures { result ≡ ground_bytes (side_of side) b.now x }
 {
-    let read = forms::read_table(Extent::Whole, b);
-    let answer = read.answer;
-    let t = read.table;
-    match answer {
-        Answer::Refused(r) => Reply::Refused(r),
-        Answer::Accepted => questions::ground(side, t, x),
-    }
+    let t = read_whole(b)?;
+    questions::ground(side, t, x)
 }
 
 // Are two sets of variables independent in the table of the bytes?
-pub fn independent(side: Side, b: &[u8], first: u32, second: u32) -> Reply
+pub fn independent(side: Side, b: &[u8], first: u32, second: u32) -> Result<bool, Refusal>
     ensures { result ≡ independent_bytes (side_of side) b.now first second }
 {
-    let read = forms::read_table(Extent::Whole, b);
-    let answer = read.answer;
-    let t = read.table;
-    match answer {
-        Answer::Refused(r) => Reply::Refused(r),
-        Answer::Accepted => questions::independent(side, t, first, second),
-    }
+    let t = read_whole(b)?;
+    questions::independent(side, t, first, second)
 }
 
 // The verdict on the group s after the equation Xx = the term of the bytes, on a checked positive table.
-fn reason_term(t: Table, x: u32, term: &[u8], s: u32) -> Verdict
+fn reason_term(t: Table, x: u32, term: &[u8], s: u32) -> Result<Verdict, Refusal>
     requires { GoodTable t }
     ensures { result ≡ term_reason t x term.now s }
 {
-    match check_bytes(term) {
-        Answer::Refused(r) => Verdict::Refused(r),
-        Answer::Accepted => {
-            let n = term.len() / 2;
-            let row = codec::tokens_at(term, 0, n);
-            let tokens: &[u16] = &row;
-            reasons::judge_checked(t, x, &tokens[..n], s)
-        }
-    }
+    check_bytes(term)?;
+    let n = term.len() / 2;
+    let row = codec::tokens_at::<{ codec::TOKENS }>(term, 0, n);
+    let tokens: &[u16] = &row;
+    reasons::judge_checked(t, x, &tokens[..n], s)
 }
 
 // Is the group s in the positive table of the bytes after the equation Xx = the term of the bytes, and why?
-pub fn reason(b: &[u8], x: u32, term: &[u8], s: u32) -> Verdict
+pub fn reason(b: &[u8], x: u32, term: &[u8], s: u32) -> Result<Verdict, Refusal>
     ensures { result ≡ reason_bytes b.now x term.now s }
 {
-    let read = forms::read_table(Extent::Whole, b);
-    let answer = read.answer;
-    let t = read.table;
-    match answer {
-        Answer::Refused(r) => Verdict::Refused(r),
-        Answer::Accepted => reason_term(t, x, term, s),
-    }
+    let t = read_whole(b)?;
+    reason_term(t, x, term, s)
 }

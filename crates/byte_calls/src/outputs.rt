@@ -9,51 +9,59 @@ ghost use Rattle.reasons.specs.Verdicts.{verdict_number, verdict_word, x_word, t
 ghost use Rattle.byte_calls.specs.Outputs.{Writable, output_number_as, output_bytes_as, output_number, output_bytes};
 ghost use Rattle.byte_calls.specs.BufferParts.{lent, smaller_part};
 
-use forms::{Extent, Layout, Listed};
+use forms::{Extent, Layout, Sizes};
 use lists::values::Came;
-use questions::Reply;
 use reasons::Verdict;
-use tables::{Answer, Answered, Refusal};
+use tables::{Answered, Refusal};
 
 // Writes the table of an accepted call, plain or packed: 9 where the output is too short. The number of the answer.
 pub fn write_as(layout: Layout, a: Answered, out: &mut [u8]) -> u32
     ensures number { result ≡ output_number_as layout a out.old }
     ensures bytes { out.new ≡ output_bytes_as layout a out.old }
 {
-    let answer = a.answer;
-    let t = a.table;
-    match answer {
-        Answer::Refused(r) => tables::refusal_number(r),
-        Answer::Accepted => tables::answer_number(forms::write(layout, t, out)),
+    match a.answer {
+        Err(r) => tables::refusal_number(r),
+        Ok(()) => tables::answer_number(forms::write(layout, a.table, out)),
     }
 }
 
 // Writes what came of a call that was lent its list, where no table was given: the form of the table whose entries the list
 // holds. The number of the answer.
-pub fn write_came(layout: Layout, l: u32, came: Came, list: &[u64; 256], out: &mut [u8]) -> u32
+pub fn write_came(
+    layout: Layout,
+    l: u32,
+    came: Result<Came, Refusal>,
+    list: &[u64; 256],
+    out: &mut [u8],
+) -> u32
     requires { Writable l list.now came }
     ensures { (a : AnsweredTable) → Comes l zero_table list.now came a
         → (result ≡ output_number_as layout a out.old)
         × (out.new ≡ output_bytes_as layout a out.old) }
 {
     match came {
-        Came::Refused(r) => tables::refusal_number(r),
+        Err(r) => tables::refusal_number(r),
         // The table all zero has no variables.
-        Came::Same => tables::refusal_number(Refusal::Width),
-        Came::Count(n) => tables::answer_number(forms::write_list(layout, l, n, list, out)),
+        Ok(Came::Same) => tables::refusal_number(Refusal::Width),
+        Ok(Came::Count(n)) => tables::answer_number(forms::write_list(layout, l, n, list, out)),
     }
 }
 
 // Writes what was read into a list: the form of the table whose entries it holds. The number of the answer.
-pub fn write_listed(layout: Layout, listed: Listed, list: &[u64; 256], out: &mut [u8]) -> u32
+pub fn write_listed(
+    layout: Layout,
+    listed: Result<Sizes, Refusal>,
+    list: &[u64; 256],
+    out: &mut [u8],
+) -> u32
     requires { (a : AnsweredTable) × Reads list.now listed a }
     ensures { (a : AnsweredTable) → Reads list.now listed a
         → (result ≡ output_number_as layout a out.old)
         × (out.new ≡ output_bytes_as layout a out.old) }
 {
     match listed {
-        Listed::Refused(r) => tables::refusal_number(r),
-        Listed::Read { l, n } => tables::answer_number(forms::write_list(layout, l, n, list, out)),
+        Err(r) => tables::refusal_number(r),
+        Ok(Sizes { l, n }) => tables::answer_number(forms::write_list(layout, l, n, list, out)),
     }
 }
 
@@ -66,7 +74,7 @@ pub fn write(a: Answered, out: &mut [u8]) -> u32
 }
 
 // Writes 1 for yes and 0 for no; nothing where the question is refused. The number of the answer.
-pub fn reply(r: Reply, word: &mut u32) -> u32
+pub fn reply(r: Result<bool, Refusal>, word: &mut u32) -> u32
     ensures number { result ≡ reply_number r }
     ensures word { word.new ≡ reply_word r word.old }
 {
@@ -75,7 +83,12 @@ pub fn reply(r: Reply, word: &mut u32) -> u32
 }
 
 // Writes the three words of a verdict; nothing where the call is refused. The number of the answer.
-pub fn verdict(v: Verdict, word: &mut u32, x_entry: &mut u32, t_entry: &mut u32) -> u32
+pub fn verdict(
+    v: Result<Verdict, Refusal>,
+    word: &mut u32,
+    x_entry: &mut u32,
+    t_entry: &mut u32,
+) -> u32
     ensures number { result ≡ verdict_number v }
     ensures word { word.new ≡ verdict_word v word.old }
     ensures entries { (x_entry.new ≡ x_word v x_entry.old) × (t_entry.new ≡ t_word v t_entry.old) }
@@ -93,25 +106,19 @@ pub fn smaller<'a>(p: &'a [u8], q: &'a [u8]) -> &'a [u8]
 {
     let a = forms::read_table(Extent::Front, p);
     let b = forms::read_table(Extent::Front, q);
-    let first = a.answer;
-    let second = b.answer;
-    let t = a.table;
-    let u = b.table;
-    match first {
-        Answer::Refused(r) => &p[..0],
-        Answer::Accepted => match second {
-            Answer::Refused(r) => &p[..0],
-            Answer::Accepted => {
-                if t.l != u.l {
-                    return &p[..0];
-                }
-                let m = codec::number_at(p, 2) as usize;
-                let n = codec::number_at(q, 2) as usize;
-                if n < m {
-                    return &q[..forms::front_length(q)];
-                }
-                &p[..forms::front_length(p)]
-            }
-        },
+    if let Err(_) = a.answer {
+        return &p[..0];
     }
+    if let Err(_) = b.answer {
+        return &p[..0];
+    }
+    if a.table.l != b.table.l {
+        return &p[..0];
+    }
+    let m = codec::number_at(p, 2) as usize;
+    let n = codec::number_at(q, 2) as usize;
+    if n < m {
+        return &q[..forms::front_length(q)];
+    }
+    &p[..forms::front_length(p)]
 }

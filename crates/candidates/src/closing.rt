@@ -7,19 +7,16 @@ ghost use Rattle.lists.specs.WorkingLists.{Holds, OfString, Within, Makes};
 ghost use Rattle.lists.specs.Filters.{Filters};
 
 use crate::Pairing;
-use lists::Grown;
 
 // One c of Close, on the list R: grows R by "r or c" for each r that R has before, then by c. `row` is room.
-fn close_one(list: &mut [u64; 256], n: usize, l: u32, c: u64, row: &mut [u64; 256]) -> Grown
+fn close_one(list: &mut [u64; 256], n: usize, l: u32, c: u64, row: &mut [u64; 256]) -> Option<usize>
     requires { (n ≤ 256) × (l ≤ 32) }
     ensures within { Within result }
     ensures made { OfString l list.old n c (λ τ s. Makes l list.new result (close_with τ s)) }
 {
     let k = crate::rows::pair_row(Pairing::Or, list, n, c, row);
-    match lists::growth::grow_each(list, n, l, row, k) {
-        Grown::Count(m) => lists::growth::grow(list, m, l, c),
-        Grown::Full => Grown::Full,
-    }
+    let m = lists::growth::grow_each(list, n, l, row, k)?;
+    lists::growth::grow(list, m, l, c)
 }
 
 // The same with a filter.
@@ -30,7 +27,7 @@ fn close_unseen(
     c: u64,
     row: &mut [u64; 256],
     seen: &mut [u64; lists::filter::SIZE],
-) -> Grown
+) -> Option<usize>
     requires { (n ≤ 256) × (l ≤ 32) }
     ensures within { Within result }
     ensures made { OfString l list.old n c (λ τ s.
@@ -39,13 +36,9 @@ fn close_unseen(
         (κ : Entries) → Filters l seen.old τ → close_with τ s ≡ some κ → Filters l seen.new κ) }
 {
     let k = crate::rows::pair_row(Pairing::Or, list, n, c, row);
-    match lists::filter::grow_unseen(list, n, l, row, k, seen) {
-        Grown::Count(m) => {
-            row[0] = c;
-            lists::filter::grow_unseen(list, m, l, row, 1, seen)
-        }
-        Grown::Full => Grown::Full,
-    }
+    let m = lists::filter::grow_unseen(list, n, l, row, k, seen)?;
+    row[0] = c;
+    lists::filter::grow_unseen(list, m, l, row, 1, seen)
 }
 
 // Close for each c of a list from an index on, with one filter.
@@ -57,7 +50,7 @@ fn close_rest(
     list: &mut [u64; 256],
     n: usize,
     row: &mut [u64; 256],
-) -> Grown
+) -> Option<usize>
     requires { (from ≤ cn) × (cn ≤ 256) × (l ≤ 32) × (n ≤ 256) }
     ensures within { Within result }
     ensures made { (γ τ : Entries) → Holds l c.now cn γ → Holds l list.old n τ
@@ -65,19 +58,10 @@ fn close_rest(
 {
     let mut seen = [words::zero(l); lists::filter::SIZE];
     let mut k = n;
-    let mut i = from;
-    while i < cn {
-        match close_unseen(list, k, l, c[i], row, &mut seen) {
-            Grown::Count(m) => {
-                k = m;
-            }
-            Grown::Full => {
-                return Grown::Full;
-            }
-        }
-        i += 1;
+    for &s in &c[from..cn] {
+        k = close_unseen(list, k, l, s, row, &mut seen)?;
     }
-    Grown::Count(k)
+    Some(k)
 }
 
 // Close, for each c of a list in turn. From 16 entries on a filter is worth its making. `row` is room.
@@ -87,28 +71,17 @@ pub fn close(
     l: u32,
     list: &mut [u64; 256],
     row: &mut [u64; 256],
-) -> Grown
+) -> Option<usize>
     requires { (cn ≤ 256) × (l ≤ 32) }
     ensures within { Within result }
     ensures made { (γ : Entries) → Holds l c.now cn γ → Makes l list.new result (close_list γ) }
 {
-    // As a slice its length is known.
-    let whole: &[u64] = &*list;
     let mut n = 0;
-    let mut i = 0;
-    while i < cn {
+    for i in 0..cn {
         if 16 <= n {
             return close_rest(c, i, cn, l, list, n, row);
         }
-        match close_one(list, n, l, c[i], row) {
-            Grown::Count(k) => {
-                n = k;
-            }
-            Grown::Full => {
-                return Grown::Full;
-            }
-        }
-        i += 1;
+        n = close_one(list, n, l, c[i], row)?;
     }
-    Grown::Count(n)
+    Some(n)
 }

@@ -7,7 +7,7 @@ pub mod pairs; // cross and meets, and what stands on meets: relevant and irrele
 pub mod closing; // close
 
 // How two strings make a candidate: "a or b", or their meet where they match.
-#[derive(Clone, Copy)]
+#[derive(Clone, Copy, Debug, PartialEq, Eq)]
 pub enum Pairing {
     Or,
     Meet,

@@ -8,7 +8,6 @@ ghost use Rattle.lists.specs.WorkingLists.{Holds, Within, Makes};
 ghost use Rattle.candidates.specs.Pairs.{pairs_of};
 
 use crate::Pairing;
-use lists::Grown;
 
 // Grows an empty list by the candidates of each string of a with each of b, the first's outermost. `row` is room.
 fn pairs_plain(
@@ -20,29 +19,18 @@ fn pairs_plain(
     l: u32,
     list: &mut [u64; 256],
     row: &mut [u64; 256],
-) -> Grown
+) -> Option<usize>
     requires { (an ≤ 256) × (bn ≤ 256) × (l ≤ 32) }
     ensures within { Within result }
     ensures made { (α β : Entries) → Holds l a.now an α → Holds l b.now bn β
         → Makes l list.new result (grow_all [] (pairs_of op α β)) }
 {
-    // As a slice its length is known.
-    let whole: &[u64] = &*list;
     let mut n = 0;
-    let mut i = 0;
-    while i < an {
-        let m = crate::rows::pair_row(op, b, bn, a[i], row);
-        match lists::growth::grow_each(list, n, l, row, m) {
-            Grown::Count(k) => {
-                n = k;
-            }
-            Grown::Full => {
-                return Grown::Full;
-            }
-        }
-        i += 1;
+    for &x in &a[..an] {
+        let m = crate::rows::pair_row(op, b, bn, x, row);
+        n = lists::growth::grow_each(list, n, l, row, m)?;
     }
-    Grown::Count(n)
+    Some(n)
 }
 
 // The same with one filter for all the rows.
@@ -55,30 +43,19 @@ fn pairs_unseen(
     l: u32,
     list: &mut [u64; 256],
     row: &mut [u64; 256],
-) -> Grown
+) -> Option<usize>
     requires { (an ≤ 256) × (bn ≤ 256) × (l ≤ 32) }
     ensures within { Within result }
     ensures made { (α β : Entries) → Holds l a.now an α → Holds l b.now bn β
         → Makes l list.new result (grow_all [] (pairs_of op α β)) }
 {
-    // As a slice its length is known.
-    let whole: &[u64] = &*list;
     let mut seen = [words::zero(l); lists::filter::SIZE];
     let mut n = 0;
-    let mut i = 0;
-    while i < an {
-        let m = crate::rows::pair_row(op, b, bn, a[i], row);
-        match lists::filter::grow_unseen(list, n, l, row, m, &mut seen) {
-            Grown::Count(k) => {
-                n = k;
-            }
-            Grown::Full => {
-                return Grown::Full;
-            }
-        }
-        i += 1;
+    for &x in &a[..an] {
+        let m = crate::rows::pair_row(op, b, bn, x, row);
+        n = lists::filter::grow_unseen(list, n, l, row, m, &mut seen)?;
     }
-    Grown::Count(n)
+    Some(n)
 }
 
 // The same; from 128 candidates on a filter is worth its making.
@@ -91,7 +68,7 @@ pub fn pairs(
     l: u32,
     list: &mut [u64; 256],
     row: &mut [u64; 256],
-) -> Grown
+) -> Option<usize>
     requires { (an ≤ 256) × (bn ≤ 256) × (l ≤ 32) }
     ensures within { Within result }
     ensures made { (α β : Entries) → Holds l a.now an α → Holds l b.now bn β
@@ -111,29 +88,18 @@ pub fn relevant_by_entry(
     m: u32,
     list: &mut [u64; 256],
     row: &mut [u64; 256],
-) -> Grown
+) -> Option<usize>
     requires { (tn ≤ 256) × (l ≤ 32) }
     ensures within { Within result }
     ensures made { (τ : Entries) (k : Bits) → Holds l t.now tn τ → length k ≡ l → m ≡ set_word k
         → Makes l list.new result (relevant_list k τ) }
 {
-    // As a slice its length is known.
-    let whole: &[u64] = &*list;
     let mut n = 0;
-    let mut i = 0;
-    while i < tn {
-        let k = crate::rows::relevant_row(t[i], m, row);
-        match lists::growth::grow_each(list, n, l, row, k) {
-            Grown::Count(c) => {
-                n = c;
-            }
-            Grown::Full => {
-                return Grown::Full;
-            }
-        }
-        i += 1;
+    for &e in &t[..tn] {
+        let k = crate::rows::relevant_row(e, m, row);
+        n = lists::growth::grow_each(list, n, l, row, k)?;
     }
-    Grown::Count(n)
+    Some(n)
 }
 
 // The same as `irrelevant`, all meets in one row. `row` is room.
@@ -144,14 +110,12 @@ pub fn irrelevant_in_row(
     m: u32,
     list: &mut [u64; 256],
     row: &mut [u64; 256],
-) -> Grown
+) -> Option<usize>
     requires { (tn ≤ 256) × (l ≤ 32) }
     ensures within { Within result }
     ensures made { (τ : Entries) (k : Bits) → Holds l t.now tn τ → length k ≡ l → m ≡ set_word k
         → Makes l list.new result (irrelevant_list k τ) }
 {
-    // As a slice its length is known.
-    let whole: &[u64] = &*list;
     let k = crate::rows::pair_row(Pairing::Meet, t, tn, (m as u64) << 32, row);
     lists::growth::grow_each(list, 0, l, row, k)
 }
@@ -166,7 +130,7 @@ pub fn relevant(
     list: &mut [u64; 256],
     other: &mut [u64; 256],
     row: &mut [u64; 256],
-) -> Grown
+) -> Option<usize>
     requires { (tn ≤ 256) × (l ≤ 32) }
     ensures within { Within result }
     ensures made { (τ : Entries) (k : Bits) → Holds l t.now tn τ → length k ≡ l → m ≡ set_word k
@@ -186,14 +150,12 @@ pub fn irrelevant(
     list: &mut [u64; 256],
     other: &mut [u64; 256],
     row: &mut [u64; 256],
-) -> Grown
+) -> Option<usize>
     requires { (tn ≤ 256) × (l ≤ 32) }
     ensures within { Within result }
     ensures made { (τ : Entries) (k : Bits) → Holds l t.now tn τ → length k ≡ l → m ≡ set_word k
         → Makes l list.new result (irrelevant_list k τ) }
 {
-    // As a slice its length is known.
-    let whole: &[u64] = &*other;
     other[0] = (m as u64) << 32;
     pairs(Pairing::Meet, t, tn, other, 1, l, list, row)
 }

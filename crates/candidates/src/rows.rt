@@ -16,12 +16,8 @@ fn or_row(list: &[u64; 256], n: usize, a: u64, row: &mut [u64; 256])
     requires { n ≤ 256 }
     ensures { (l : ℕ) → OfString l list.now n a (λ τ s. Holds l row.new n (map (or_strings s) τ)) }
 {
-    // As a slice its length is known.
-    let whole: &[u64] = &*row;
-    let mut i = 0;
-    while i < n {
+    for i in 0..n {
         row[i] = words::or(a, list[i]);
-        i += 1;
     }
 }
 
@@ -31,17 +27,12 @@ fn meet_row(list: &[u64; 256], n: usize, a: u64, row: &mut [u64; 256]) -> usize
     ensures few { result ≤ 256 }
     ensures made { (l : ℕ) → OfString l list.now n a (λ τ s. Holds l row.new result (meets_with s τ)) }
 {
-    // As a slice its length is known.
-    let whole: &[u64] = &*row;
     let mut k = 0;
-    let mut i = 0;
-    while i < n {
-        let e = list[i];
+    for &e in &list[..n] {
         row[k] = words::meet(a, e);
         if words::matches(a, e) {
             k += 1;
         }
-        i += 1;
     }
     k
 }
@@ -67,12 +58,8 @@ pub fn cut_row(list: &[u64; 256], n: usize, keep: u32, row: &mut [u64; 256])
     ensures { (k : Bits) (τ : Entries) → Holds (length k) list.now n τ → keep ≡ set_word k
         → Holds (kept k) row.new n (map (cut_string k) τ) }
 {
-    // As a slice its length is known.
-    let whole: &[u64] = &*row;
-    let mut i = 0;
-    while i < n {
+    for i in 0..n {
         row[i] = words::cut(keep, list[i]);
-        i += 1;
     }
 }
 
@@ -82,16 +69,12 @@ pub fn ones_row(m: u32, l: u32, row: &mut [u64; 256]) -> usize
     ensures few { result ≤ 256 }
     ensures made { (k : Bits) → length k ≡ l → m ≡ set_word k → Holds l row.new result (ones k) }
 {
-    // As a slice its length is known.
-    let whole: &[u64] = &*row;
     let mut k = 0;
-    let mut i = 0u32;
-    while i < l {
+    for i in 0..l {
         if (m >> i) % 2 == 1 {
             row[k] = 1u64 << i;
             k += 1;
         }
-        i += 1;
     }
     k
 }
@@ -103,15 +86,14 @@ pub fn relevant_row(e: u64, m: u32, row: &mut [u64; 256]) -> usize
     ensures made { (s : Trits) (k : Bits) → length s ≤ 32 → length k ≡ length s → e ≡ word s → m ≡ set_word k
         → Holds (length s) row.new result (meets_with s (ones k)) }
 {
-    // As a slice its length is known.
-    let whole: &[u64] = &*row;
     let named = m as u64;
     let mut left = named ^ (named & (e >> 32));
     let mut k = 0;
+    // A `while`: it goes by the bits that are left.
     while left != 0 {
         row[k] = words::meet(e, 1u64 << u64::trailing_zeros(left));
         k += 1;
-        left = left & (left - 1);
+        left &= left - 1;
     }
     k
 }

@@ -9,6 +9,9 @@ ghost use Rattle.codec.specs.Numbers.{WordSize, word_bytes, bytes};
 // Room for the most tokens that an equation, or a list of equations, has.
 pub const TOKENS: usize = 1024;
 
+// Room for the tokens of a term that is short, as most are.
+pub const FEW: usize = 32;
+
 // A byte as a 16-bit number.
 fn wide(x: u8) -> u16
     ensures { (result ≡ x) × (result < 256) }
@@ -36,33 +39,14 @@ pub fn word_at(b: &[u8], at: usize, k: usize) -> u32
     low + 65536 * (number_at(b, at + 2) as u32)
 }
 
-// The n numbers from an index on, then zeros: tokens.
-pub fn tokens_at(b: &[u8], at: usize, n: usize) -> [u16; TOKENS]
-    requires { (n ≤ 1024) × (at + 2 * n ≤ length b.now) }
-    ensures { result ≡ with_zeros 1024 (numbers n (drop at b.now)) }
+// The n numbers from an index on, then zeros: tokens, in an array with room for N.
+pub fn tokens_at<const N: usize>(b: &[u8], at: usize, n: usize) -> [u16; N]
+    requires { (n ≤ N) × (at + 2 * n ≤ length b.now) }
+    ensures { result ≡ with_zeros N (numbers n (drop at b.now)) }
 {
-    let mut out = [0u16; TOKENS];
-    let mut i = 0;
-    while i < n {
+    let mut out = [0u16; N];
+    for i in 0..n {
         out[i] = number_at(b, at + 2 * i);
-        i += 1;
-    }
-    out
-}
-
-// Room for the tokens of a term that is short, as most are.
-pub const FEW: usize = 32;
-
-// The first n numbers, then zeros: the tokens of a short term.
-pub fn few_tokens(b: &[u8], n: usize) -> [u16; FEW]
-    requires { (n ≤ 32) × (2 * n ≤ length b.now) }
-    ensures { result ≡ with_zeros 32 (numbers n b.now) }
-{
-    let mut out = [0u16; FEW];
-    let mut i = 0;
-    while i < n {
-        out[i] = number_at(b, 2 * i);
-        i += 1;
     }
     out
 }
@@ -73,11 +57,8 @@ pub fn sum_at(b: &[u8], at: usize, n: usize) -> usize
     ensures { result ≡ sum (numbers n (drop at b.now)) }
 {
     let mut total = 0usize;
-    let mut i = 0;
-    while i < n {
-        let w = number_at(b, at + 2 * i);
-        total = total + (w as usize);
-        i += 1;
+    for i in 0..n {
+        total += number_at(b, at + 2 * i) as usize;
     }
     total
 }
@@ -107,11 +88,7 @@ pub fn write_words(b: &mut [u8], at: usize, k: usize, ws: &[u32; 256], n: usize)
     requires { WordSize k × (n ≤ 256) × (at + k * n ≤ length b.old) }
     ensures { b.new ≡ sets b.old at (bytes k (take n ws.now)) }
 {
-    // As a slice its length is known.
-    let s: &[u32] = ws;
-    let mut i = 0;
-    while i < n {
-        write_word(b, at + k * i, k, s[i]);
-        i += 1;
+    for (i, &w) in ws[..n].iter().enumerate() {
+        write_word(b, at + k * i, k, w);
     }
 }

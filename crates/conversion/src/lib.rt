@@ -7,38 +7,25 @@ ghost use Rattle.words.specs.Words.{set};
 ghost use Rattle.lists.specs.WorkingLists.{Within, Makes};
 ghost use Rattle.conversion.specs.Conversion.{all_below as all_below_list};
 
-use lists::Grown;
 use words::Entry;
 
 // Converts a row of words, each a string of l positions, from the empty list: each is grown, which skips a zero string.
-pub fn convert(list: &mut [u64; 256], l: u32, words: &[u32]) -> Grown
+pub fn convert(list: &mut [u64; 256], l: u32, words: &[u32]) -> Option<usize>
     requires { l ≤ 32 }
     ensures within { Within result }
     ensures made { all_below_list l words.now ≡ true
         → Makes l list.new result (convert_list (map (set l) words.now)) }
 {
-    // As a slice its length is known.
-    let whole: &[u64] = &*list;
     let full = words::full(l);
     let mut n = 0;
-    let mut i = 0;
-    while i < words.len() {
-        let w = words[i];
+    for &w in words {
         let y = words::word_of(Entry {
             care: full,
             value: w,
         });
-        match lists::growth::grow(list, n, l, y) {
-            Grown::Count(k) => {
-                n = k;
-            }
-            Grown::Full => {
-                return Grown::Full;
-            }
-        }
-        i += 1;
+        n = lists::growth::grow(list, n, l, y)?;
     }
-    Grown::Count(n)
+    Some(n)
 }
 
 // Has no word a bit above l?
@@ -48,10 +35,8 @@ pub fn all_below(l: u32, words: &[u32]) -> bool
 {
     let full = words::full(l);
     let mut good = true;
-    let mut i = 0;
-    while i < words.len() {
-        good = good & (words[i] <= full);
-        i += 1;
+    for &w in words {
+        good &= w <= full;
     }
     good
 }

@@ -7,7 +7,8 @@ use Prim.Native.Nat.{ℕ, zero, suc, ◌+◌, ◌-◌, ◌*◌, ◌/◌, ◌%◌
 use native.Mathlib.Nat.{mod-lt}
 use native.Mathlib.Omega.{arith}
 use borrow.Author.Tests.{eqb-true}
-use lib.Bits.{bit_and, bit_or, and_block, and_zero_r, and_high, and_lt, and_le_l, and_le_r, or_add_and, or_disjoint, or_shr, or_mod}
+use lib.Bits.{bit_and, bit_or, and_block, and_zero_r, and_high, and_lt, and_le_l, and_le_r}
+use lib.Bits.{or_add_and, or_disjoint, or_shr, or_mod}
 use lib.Dec.{eqb, lit<}
 use lib.ListN.{length, length-map}
 use lib.Pow.{pow_pos, pow-lt, pow-add, split}

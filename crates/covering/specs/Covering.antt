@@ -1,15 +1,15 @@
 -- Whether a list covers all groups of a string or of a list, and what is found on the way to the answer.
-use Rattle.std.specs.Prelude.{◌≡◌, Bool, true, false, not, ◌||◌, [], ◌∷◌, ℕ, zero, suc, ◌<◌, ◌≤◌, length, get_or}
+use Rattle.std.specs.Prelude.{◌≡◌, Bool, true, false, not, ◌||◌, [], ◌∷◌, ℕ, zero, suc, ◌<◌, length, get_or, Option, Some, None}
 use Rattle.model.specs.Groups.{Bits}
 use Rattle.model.specs.Strings.{Trits, covers, matches, subsumes}
 use Rattle.model.specs.Growth.{Entries, covered}
 use Rattle.model.specs.Questions.{every_group}
 use Rattle.words.specs.Words.{word}
 
--- r is the index of an entry that matches y, or the count where none does.
-pub record Nearest (τ : Entries) (y : Trits) (r : ℕ) : Type 0 where
-  pub found : r < length τ → matches (get_or τ r []) y ≡ true
-  pub no_match : length τ ≤ r → (i : ℕ) → i < length τ → matches (get_or τ i []) y ≡ false
+-- The index of an entry that matches y, or none where none does.
+abbrev pub Nearest : Entries → Trits → Option ℕ → Type 0
+Nearest τ y (Some r) = (r < length τ) × (matches (get_or τ r []) y ≡ true)
+Nearest τ y None = (i : ℕ) → i < length τ → matches (get_or τ i []) y ≡ false
 
 -- r is the word of a string that y subsumes, and that covers all that y covers but what passes the test p: only positions
 -- that are forced are fixed (in the field: unit propagation).

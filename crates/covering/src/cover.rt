@@ -1,6 +1,6 @@
 // Is every group that a string covers covered by a list? Inner: not a public call.
 // `covered` calls itself no deeper than the string has stars: each call has one position more fixed, or several.
-ghost use Rattle.std.specs.Prelude.{◌≡◌, true, false, not, ◌&&◌, ℕ, ◌^◌, ◌≤◌, ◌<◌, length};
+ghost use Rattle.std.specs.Prelude.{◌≡◌, true, false, not, ◌&&◌, ℕ, ◌^◌, ◌≤◌, ◌<◌, length, IfSome, MatchOption};
 ghost use Rattle.model.specs.Strings.{Trits, covers, matches, fixed};
 ghost use Rattle.model.specs.Growth.{covered as covered_list};
 ghost use Rattle.words.specs.Words.{word, opposed_word};
@@ -12,7 +12,8 @@ ghost use Rattle.covering.specs.Covering.{Narrows, Nearest, agreed as agreed_str
 // is forced.)
 fn narrowed_by(v: u64, y: u64) -> u64
     ensures more { y ≤ result }
-    ensures strings { (s t : Trits) → length s ≡ length t → length s ≤ 32 → v ≡ word s → y ≡ word t → Narrows (covers s) t result }
+    ensures strings { (s t : Trits) → length s ≡ length t → length s ≤ 32 → v ≡ word s → y ≡ word t
+        → Narrows (covers s) t result }
 {
     let w = (v & y) ^ v;
     if w == 0 {
@@ -31,46 +32,41 @@ fn narrowed(list: &[u64; 256], n: usize, y: u64) -> u64
     ensures strings { (l : ℕ) → OfString l list.now n y (λ τ s. Narrows (covered_list τ) s result) }
 {
     let mut x = y;
-    let mut i = 0;
-    while i < n {
-        x = narrowed_by(list[i], x);
-        i += 1;
+    for &v in &list[..n] {
+        x = narrowed_by(v, x);
     }
     x
 }
 
-// The rank of an entry that does not match: above any number of pieces.
-const NO_MATCH: u32 = 65;
-
-// How many pieces v leaves of y: one for each position that is fixed in v and `*` in y. 65 where v and y do not match.
-fn rank(v: u64, y: u64) -> u32
-    ensures bound { result ≤ 65 }
+// How many pieces v leaves of y, where they match: one for each position that is fixed in v and `*` in y.
+fn rank(v: u64, y: u64) -> Option<u32>
+    ensures bound { IfSome result (λ k. k ≤ 64) }
     ensures strings { (s t : Trits) → length s ≡ length t → length s ≤ 32 → v ≡ word s → y ≡ word t
-        → (result < 65 → matches s t ≡ true) × (result ≡ 65 → matches s t ≡ false) }
+        → MatchOption result (matches s t ≡ false) (λ k. matches s t ≡ true) }
 {
     if !words::matches(v, y) {
-        return NO_MATCH;
+        return None;
     }
-    u64::count_ones((v & y) ^ v)
+    Some(u64::count_ones((v & y) ^ v))
 }
 
-// The index of a matching entry, or n where no entry matches. It is the one that leaves the fewest pieces of y, which is a
-// matter of speed alone.
-fn nearest(list: &[u64; 256], n: usize, y: u64) -> usize
+// The index of a matching entry, if one matches. It is the one that leaves the fewest pieces of y, which is a matter of speed
+// alone.
+fn nearest(list: &[u64; 256], n: usize, y: u64) -> Option<usize>
     requires { n ≤ 256 }
-    ensures bound { result ≤ n }
+    ensures bound { IfSome result (λ r. r < n) }
     ensures strings { (l : ℕ) → OfString l list.now n y (λ τ s. Nearest τ s result) }
 {
-    let mut best = n;
-    let mut few = NO_MATCH;
-    let mut i = 0;
-    while i < n {
-        let k = rank(list[i], y);
-        if k < few {
-            best = i;
-            few = k;
+    // The best so far, and how many pieces it leaves.
+    let mut best = None;
+    let mut few = u32::MAX;
+    for (i, &v) in list[..n].iter().enumerate() {
+        if let Some(k) = rank(v, y) {
+            if k < few {
+                best = Some(i);
+                few = k;
+            }
         }
-        i += 1;
     }
     best
 }
@@ -79,7 +75,8 @@ fn nearest(list: &[u64; 256], n: usize, y: u64) -> usize
 fn splits(y: u64, v: u64, i: u32) -> bool
     requires { i < 32 }
     ensures more { result ≡ true → y < opposed_word i v y }
-    ensures strings { (s t : Trits) → length s ≤ 32 → length t ≤ 32 → y ≡ word s → v ≡ word t → result ≡ (fixed i t && not (fixed i s)) }
+    ensures strings { (s t : Trits) → length s ≤ 32 → length t ≤ 32 → y ≡ word s → v ≡ word t
+        → result ≡ (fixed i t && not (fixed i s)) }
 {
     ((words::fixed(v) >> i) % 2 == 1) & ((words::fixed(y) >> i) % 2 == 0)
 }
@@ -88,8 +85,8 @@ fn splits(y: u64, v: u64, i: u32) -> bool
 fn agreed(y: u64, v: u64, i: u32) -> u64
     requires { i < 32 }
     ensures more { y ≤ result }
-    ensures strings { (s t : Trits) → length s ≡ length t → length s ≤ 32 → y ≡ word s → v ≡ word t → fixed i s ≡ false → fixed i t ≡ true
-        → result ≡ word (agreed_string i t s) }
+    ensures strings { (s t : Trits) → length s ≡ length t → length s ≤ 32 → y ≡ word s → v ≡ word t
+        → fixed i s ≡ false → fixed i t ≡ true → result ≡ word (agreed_string i t s) }
 {
     let bit = 1u64 << i;
     y | (v & ((bit << 32) | bit))
@@ -110,14 +107,12 @@ pub fn covered(list: &[u64; 256], n: usize, l: u32, y: u64) -> bool
     if y < x {
         return covered(list, n, l, x);
     }
-    let at = nearest(list, n, y);
-    if at == n {
+    let Some(at) = nearest(list, n, y) else {
         return words::is_zero(l, y);
-    }
+    };
     let v = list[at];
     let mut z = y;
-    let mut i = 0u32;
-    while i < l {
+    for i in 0..l {
         if splits(z, v, i) {
             let piece = words::opposed(z, v, i);
             if !covered(list, n, l, piece) {
@@ -125,7 +120,6 @@ pub fn covered(list: &[u64; 256], n: usize, l: u32, y: u64) -> bool
             }
             z = agreed(z, v, i);
         }
-        i += 1;
     }
     true
 }

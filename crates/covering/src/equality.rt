@@ -11,12 +11,10 @@ fn included(a: &[u64; 256], an: usize, b: &[u64; 256], bn: usize, l: u32) -> boo
     requires { (an ≤ 256) × (bn ≤ 256) × (l ≤ 32) }
     ensures { (α β : Entries) → Holds l a.now an α → Holds l b.now bn β → result ≡ within l α β }
 {
-    let mut i = 0;
-    while i < an {
-        if !crate::cover::covered(b, bn, l, a[i]) {
+    for &e in &a[..an] {
+        if !crate::cover::covered(b, bn, l, e) {
             return false;
         }
-        i += 1;
     }
     true
 }

@@ -24,12 +24,10 @@ pub fn independent_positive(list: &[u64; 256], n: usize, a: u32, b: u32) -> bool
     ensures { (l : ℕ) (τ : Entries) (x y : Bits) → Holds l list.now n τ → length x ≡ l → length y ≡ l → a ≡ set_word x
         → b ≡ set_word y → result ≡ independent positive l τ x y }
 {
-    let mut i = 0;
-    while i < n {
-        if joins(list[i], a, b) {
+    for &e in &list[..n] {
+        if joins(e, a, b) {
             return false;
         }
-        i += 1;
     }
     true
 }
@@ -67,8 +65,7 @@ fn apart_negative(list: &[u64; 256], n: usize, l: u32, y: u64, set: u32) -> bool
     ensures { OfString l list.now n y (λ τ s.
         (k : Bits) → length k ≡ l → set ≡ set_word k → result ≡ apart l τ s k) }
 {
-    let mut j = 0u32;
-    while j < l {
+    for j in 0..l {
         if in_set(set, j) {
             let z = first_at(set, j);
             if words::matches(y, z) {
@@ -77,7 +74,6 @@ fn apart_negative(list: &[u64; 256], n: usize, l: u32, y: u64, set: u32) -> bool
                 }
             }
         }
-        j += 1;
     }
     true
 }
@@ -88,14 +84,12 @@ pub fn independent_negative(list: &[u64; 256], n: usize, l: u32, a: u32, b: u32)
     ensures { (τ : Entries) (x y : Bits) → Holds l list.now n τ → length x ≡ l → length y ≡ l → a ≡ set_word x
         → b ≡ set_word y → result ≡ independent negative l τ x y }
 {
-    let mut i = 0u32;
-    while i < l {
+    for i in 0..l {
         if in_set(a, i) {
             if !apart_negative(list, n, l, first_at(a, i), b) {
                 return false;
             }
         }
-        i += 1;
     }
     true
 }

@@ -8,15 +8,15 @@ use native.Mathlib.Omega.{arith}
 use Rattle.model.specs.Tables.{Side}
 use Rattle.tables.specs.declared.Table.{Table}
 use Rattle.tables.specs.declared.Refusal.{Refusal}
-use Rattle.tables.specs.declared.Answer.{Answer}
-use Rattle.tables.specs.declared.Answer.TheVariants.{Accepted, Refused}
+use Rattle.tables.specs.Refusals.{Answer}
+use Rattle.tables.specs.Refusals.{Accepted, Refused}
 use Rattle.tables.specs.declared.Answered.{Answered}
 use Rattle.tables.specs.Values.{zero_table, refuses, GoodTable}
 use Rattle.tables.proofs.Checking.{good_passes}
 use Rattle.terms.specs.Checks.{Written, one_term, two_terms}
 use Rattle.operations.specs.Operations.{written_call, join_call, projection_call, change_side_call}
-use Rattle.questions.specs.declared.Reply.{Reply}
-use Rattle.questions.specs.declared.Reply.TheVariants as Q
+use Rattle.questions.specs.Replies.{Reply}
+use Rattle.questions.specs.Replies as Q
 use Rattle.questions.specs.Replies.{equal_call, ground_call, independent_call}
 use Rattle.byte_calls.specs.ByteCalls.{written_tokens, value_call, refuses_zero, after_read, change_side_bytes}
 use Rattle.byte_calls.specs.ByteCalls.{equation_bytes, unify_bytes, written_bytes, join_bytes, projection_bytes}

@@ -15,7 +15,7 @@ use Rattle.model.proofs.Given.{Each}
 use Rattle.model.proofs.Exact.{shape_good, no_groups_made}
 use Rattle.model.proofs.Unification.{deeper_none, deeper_entries, only_itself}
 use Rattle.tables.specs.declared.Table.{Table}
-use Rattle.tables.specs.declared.Answer.TheVariants.{Accepted}
+use Rattle.tables.specs.Refusals.{Accepted}
 use Rattle.tables.specs.declared.Answered.{Answered}
 use Rattle.tables.specs.Values.{table_of, entries_of, accepts, made_or_full, GoodTable}
 use Rattle.tables.proofs.Values.{entries_of_table}

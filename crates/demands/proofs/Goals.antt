@@ -23,17 +23,17 @@ use Rattle.words.proofs.Codec.{sets_long}
 use Rattle.tables.specs.declared.Table.{Table}
 use Rattle.tables.specs.declared.Refusal.{Refusal}
 use Rattle.tables.specs.declared.Refusal.TheVariants as R
-use Rattle.tables.specs.declared.Answer.{Answer}
-use Rattle.tables.specs.declared.Answer.TheVariants.{Accepted, Refused}
+use Rattle.tables.specs.Refusals.{Answer}
+use Rattle.tables.specs.Refusals.{Accepted, Refused}
 use Rattle.tables.specs.declared.Answered.{Answered}
 use Rattle.tables.specs.Refusals.{if_accepted}
 use Rattle.tables.specs.Values.{entries_of, accepts, check_table}
 use Rattle.operations.specs.Operations.{convert_call, join_call, projection_call, change_side_call}
 use Rattle.operations.specs.Outcomes.{TableValue, groups_of, Outcome}
 use Rattle.operations.proofs.Demand2.{result, convert_outcome, join_outcome, projection_outcome, change_outcome}
-use Rattle.questions.specs.declared.Reply.{Reply}
-use Rattle.questions.specs.declared.Reply.TheVariants as Q
-use Rattle.questions.specs.declared.Reply.TheVariants.{Yes, No}
+use Rattle.questions.specs.Replies.{Reply}
+use Rattle.questions.specs.Replies as Q
+use Rattle.questions.specs.Replies.{Yes, No}
 use Rattle.questions.specs.Replies.{replies, good_sets, equal_call, ground_call, independent_call}
 use Rattle.questions.proofs.Exact.{equal_sides}
 use Rattle.forms.specs.declared.Layout.TheVariants.{Plain}

@@ -17,8 +17,8 @@ use Rattle.tables.specs.Refusals.{refusal_number, member, one_of}
 use Rattle.tables.proofs.Numbers.{within, refusal_some, same_refusal}
 use Rattle.operations.specs.Outcomes.{groups_of}
 use Rattle.operations.proofs.Exclusive.{Conditions, single, test}
-use Rattle.questions.specs.declared.Reply.{Reply}
-use Rattle.questions.specs.declared.Reply.TheVariants.{Yes, No, Refused}
+use Rattle.questions.specs.Replies.{Reply}
+use Rattle.questions.specs.Replies.{Yes, No, Refused}
 use Rattle.questions.specs.Replies.{good_sets, equal_call, ground_call, independent_call}
 use Rattle.questions.specs.Statements.{Replied, early, yes, no}
 use Rattle.questions.proofs.Exact.{equal_replied, ground_replied, independent_replied}

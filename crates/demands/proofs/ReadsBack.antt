@@ -17,8 +17,8 @@ use Rattle.words.specs.Words.{set}
 use Rattle.words.proofs.Codec.{set_length, sets_long}
 use Rattle.tables.specs.declared.Table.{Table}
 use Rattle.tables.specs.declared.Refusal.{Refusal}
-use Rattle.tables.specs.declared.Answer.{Answer}
-use Rattle.tables.specs.declared.Answer.TheVariants.{Accepted, Refused}
+use Rattle.tables.specs.Refusals.{Answer}
+use Rattle.tables.specs.Refusals.{Accepted, Refused}
 use Rattle.tables.specs.declared.Answered.{Answered}
 use Rattle.tables.specs.Refusals.{if_accepted}
 use Rattle.tables.specs.Values.{entries_of, accepts, refuses, made_or_full, good_width, check_table, GoodTable}

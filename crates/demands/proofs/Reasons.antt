@@ -9,15 +9,15 @@ use Rattle.model.specs.Terms.{Term}
 use Rattle.model.proofs.Tests.{or_right}
 use Rattle.tables.specs.declared.Table.{Table}
 use Rattle.tables.specs.declared.Refusal.{Refusal}
-use Rattle.tables.specs.declared.Answer.{Answer}
-use Rattle.tables.specs.declared.Answer.TheVariants as A
+use Rattle.tables.specs.Refusals.{Answer}
+use Rattle.tables.specs.Refusals as A
 use Rattle.tables.specs.Refusals.{refusal_number, if_accepted, member, one_of}
 use Rattle.tables.proofs.Numbers.{within, refusal_some, same_refusal}
 use Rattle.terms.specs.Checks as C
 use Rattle.operations.proofs.Exclusive.{and_then, as_said, term_conditions}
 use Rattle.reasons.specs.declared.Reason.TheVariants.{NoXEntry, NoTEntry, NotMadeUp, NotThere, NoSolution}
-use Rattle.reasons.specs.declared.Verdict.{Verdict}
-use Rattle.reasons.specs.declared.Verdict.TheVariants.{Kept, Joined, Absent, Refused}
+use Rattle.reasons.specs.Verdicts.{Verdict}
+use Rattle.reasons.specs.Verdicts.{Kept, Joined, Absent, Refused}
 use Rattle.reasons.specs.Verdicts.{verdict_number, verdict_word, x_word, t_word, reason_call}
 use Rattle.reasons.specs.Statements.{There, Judged, early, judged, ExclusiveVerdicts, TableWhere, InAfter}
 use Rattle.reasons.proofs.Exclusive.{group_conditions, exclusive_verdicts, reason_judged}

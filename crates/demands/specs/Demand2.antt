@@ -14,7 +14,7 @@ use Rattle.words.specs.Words.{set}
 use Rattle.tables.specs.declared.Table.{Table}
 use Rattle.tables.specs.declared.Refusal.{Refusal}
 use Rattle.tables.specs.declared.Refusal.TheVariants as R
-use Rattle.tables.specs.declared.Answer.TheVariants.{Accepted, Refused}
+use Rattle.tables.specs.Refusals.{Accepted, Refused}
 use Rattle.tables.specs.declared.Answered.{Answered}
 use Rattle.tables.specs.Refusals.{refusal_number, member, one_of}
 use Rattle.tables.specs.Values.{zero_table, accepts, refuses, good_width, GoodTable}
@@ -22,9 +22,9 @@ use Rattle.terms.specs.Checks as C
 use Rattle.operations.specs.Operations.{good_keep, convert_call}
 use Rattle.operations.specs.Outcomes.{groups_of, Becomes, ConvertEarly, ConvertReady, ConvertNeeds, EquationNeeds, JoinNeeds}
 use Rattle.operations.specs.Outcomes.{UnifyNeeds, ProjectionNeeds, ChangeNeeds}
-use Rattle.questions.specs.declared.Reply.{Reply}
+use Rattle.questions.specs.Replies.{Reply}
 use Rattle.questions.specs.Replies.{reply_number, reply_word, good_sets}
-use Rattle.reasons.specs.declared.Verdict.{Verdict}
+use Rattle.reasons.specs.Verdicts.{Verdict}
 use Rattle.reasons.specs.Verdicts.{verdict_number, verdict_word, x_word, t_word, check_group}
 use Rattle.reasons.specs.Statements.{TableWhere, InAfter}
 use Rattle.forms.specs.declared.Extent.TheVariants.{Whole, Front}

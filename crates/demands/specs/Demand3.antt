@@ -10,8 +10,8 @@ use Rattle.model.specs.Walk.{Sides}
 use Rattle.model.specs.Calls.{Event, accepted, refused}
 use Rattle.tables.specs.declared.Table.{Table}
 use Rattle.tables.specs.declared.Refusal.{Refusal}
-use Rattle.tables.specs.declared.Answer.{Answer}
-use Rattle.tables.specs.declared.Answer.TheVariants.{Accepted, Refused}
+use Rattle.tables.specs.Refusals.{Answer}
+use Rattle.tables.specs.Refusals.{Accepted, Refused}
 use Rattle.tables.specs.Values.{accepts}
 use Rattle.terms.specs.Checks.{Written, one_term, two_terms}
 use Rattle.operations.specs.Operations.{written_call}

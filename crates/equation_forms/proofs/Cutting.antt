@@ -7,7 +7,7 @@ use native.Mathlib.Omega.{arith}
 use borrow.Author.Tests.{le-leb, ne_eqb}
 use lib.ListN.{length, take, length-append, length-take}
 use Rattle.tables.specs.declared.Refusal.TheVariants as R
-use Rattle.tables.specs.declared.Answer.TheVariants.{Accepted, Refused}
+use Rattle.tables.specs.Refusals.{Accepted, Refused}
 use Rattle.terms.specs.Checks.{most_tokens}
 use Rattle.codec.specs.Numbers.{number, rows, sum}
 use Rattle.equation_forms.specs.declared.Left.{Left}

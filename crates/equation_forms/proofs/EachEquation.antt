@@ -6,10 +6,10 @@ use native.Mathlib.Omega.{arith}
 use lib.ListN.{length, take, drop}
 use lib.Seq.{take_at}
 use Rattle.model.specs.Walk.{Sides}
-use Rattle.tables.specs.declared.Answer.{Answer}
-use Rattle.tables.specs.declared.Answer.TheVariants.{Accepted, Refused}
+use Rattle.tables.specs.Refusals.{Answer}
+use Rattle.tables.specs.Refusals.{Accepted, Refused}
 use Rattle.tables.specs.declared.Refusal.{Refusal}
-use Rattle.terms.specs.declared.Checked.TheVariants as K
+use Rattle.terms.specs.Checks as K
 use Rattle.terms.specs.Checks.{Outcome, reads, refuses, if_read, check_equation, one_term, two_terms, check_written}
 use Rattle.terms.specs.Checks.{check_answer, checked, most_tokens}
 use Rattle.terms.proofs.Checking.{checked_reads, checked_refuses}

@@ -10,8 +10,8 @@ use Rattle.model.specs.Terms.{Term, var}
 use Rattle.model.specs.Walk.{Sides}
 use Rattle.tables.specs.declared.Refusal.{Refusal}
 use Rattle.tables.specs.declared.Refusal.TheVariants as R
-use Rattle.tables.specs.declared.Answer.{Answer}
-use Rattle.tables.specs.declared.Answer.TheVariants.{Refused}
+use Rattle.tables.specs.Refusals.{Answer}
+use Rattle.tables.specs.Refusals.{Refused}
 use Rattle.tables.specs.Refusals.{member, one_of, Numbered}
 use Rattle.tables.proofs.Numbers.{within, one_of_more, refused_numbered, accepted_numbered, test_numbered}
 use Rattle.terms.specs.Checks.{Outcome, reads, refuses, if_read, most_tokens, check_equation, Written, one_term, two_terms}

@@ -9,7 +9,7 @@ use lib.Dec.{leb}
 use lib.ListN.{length, drop}
 use lib.Seq.{drop-drop}
 use Rattle.tables.specs.declared.Refusal.TheVariants as R
-use Rattle.tables.specs.declared.Answer.TheVariants.{Refused}
+use Rattle.tables.specs.Refusals.{Refused}
 use Rattle.tables.proofs.Tests.{both_true}
 use Rattle.terms.specs.Checks.{most_tokens}
 use Rattle.codec.specs.Numbers.{numbers, sum}

@@ -9,8 +9,8 @@ use lib.Dec.{leb, eqb}
 use lib.ListN.{length}
 use Rattle.tables.specs.declared.Refusal.{Refusal}
 use Rattle.tables.specs.declared.Refusal.TheVariants as R
-use Rattle.tables.specs.declared.Answer.{Answer}
-use Rattle.tables.specs.declared.Answer.TheVariants.{Accepted, Refused}
+use Rattle.tables.specs.Refusals.{Answer}
+use Rattle.tables.specs.Refusals.{Accepted, Refused}
 use Rattle.terms.specs.Checks.{most_tokens}
 use Rattle.tables.proofs.Tests.{both_true}
 use Rattle.equation_forms.specs.declared.Left.{Left}

@@ -4,8 +4,8 @@
 -- says.
 use Rattle.std.specs.Prelude.{◌≡◌, ◌&&◌, cond, List, [], ◌∷◌, ℕ, ◌+◌, ◌*◌, ◌/◌, ◌≤◌, ◌<◌, leb, eqb, length, take, drop}
 use Rattle.tables.specs.declared.Refusal.TheVariants as R
-use Rattle.tables.specs.declared.Answer.{Answer}
-use Rattle.tables.specs.declared.Answer.TheVariants.{Accepted, Refused}
+use Rattle.tables.specs.Refusals.{Answer}
+use Rattle.tables.specs.Refusals.{Accepted, Refused}
 use Rattle.terms.specs.Checks.{if_read, Written, one_term, two_terms, check_written, most_tokens}
 use Rattle.codec.specs.Numbers.{number_at, numbers, sum}
 use Rattle.equation_forms.specs.declared.Cursor.{Cursor}

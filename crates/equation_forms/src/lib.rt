@@ -7,11 +7,10 @@ ghost use Rattle.equation_forms.specs.EquationForms.{GoodSizes, On, start, Here,
 ghost use Rattle.equation_forms.specs.EquationForms.{this, after, equations_in, tokens_counted, check_each, check_equations};
 ghost use Rattle.equation_forms.specs.EquationForms.{equations_length, most_equations};
 
-use tables::{Answer, Refusal};
-use terms::Checked;
+use tables::Refusal;
 
 // What stands on the left of each equation of a form: a variable, or a term.
-#[derive(Clone, Copy)]
+#[derive(Clone, Copy, Debug, PartialEq, Eq)]
 pub enum Left {
     Variable,
     Term,
@@ -101,20 +100,20 @@ pub fn next(f: Left, c: Cursor, b: &[u8]) -> Cursor
 // ---- The checks
 
 // The equation at that place: what is on its left, then its right side.
-fn check_this(f: Left, l: u32, c: Cursor, b: &[u8]) -> Answer
+fn check_this(f: Left, l: u32, c: Cursor, b: &[u8]) -> Result<(), Refusal>
     requires { (l ≤ 32) × On f c b.now × Here c }
     ensures { result ≡ check_answer (check_written l (this f c b.now)) }
 {
     let x = left_number(c, b);
     let part = tokens(f, c, b);
     let n = part.len() / 2;
-    let row = codec::tokens_at(part, 0, n);
+    let row = codec::tokens_at::<{ codec::TOKENS }>(part, 0, n);
     let ts: &[u16] = &row;
     match f {
-        Left::Variable => match terms::check_equation(l, x, &ts[..n]) {
-            Checked::Refused(r) => Answer::Refused(r),
-            Checked::Variables(_) => Answer::Accepted,
-        },
+        Left::Variable => {
+            terms::check_equation(l, x, &ts[..n])?;
+            Ok(())
+        }
         Left::Term => {
             let k = x as usize;
             let ss = &ts[..k];
@@ -125,22 +124,16 @@ fn check_this(f: Left, l: u32, c: Cursor, b: &[u8]) -> Answer
 }
 
 // Equation by equation, up to the first that is refused.
-fn check_each(f: Left, l: u32, b: &[u8]) -> Answer
+fn check_each(f: Left, l: u32, b: &[u8]) -> Result<(), Refusal>
     requires { (l ≤ 32) × GoodSizes f b.now }
     ensures { result ≡ check_each l (equations_in f b.now) }
 {
     let mut c = first(b);
     while more(c) {
-        match check_this(f, l, c, b) {
-            Answer::Refused(r) => {
-                return Answer::Refused(r);
-            }
-            Answer::Accepted => {
-                c = next(f, c, b);
-            }
-        }
+        check_this(f, l, c, b)?;
+        c = next(f, c, b);
     }
-    Answer::Accepted
+    Ok(())
 }
 
 // How many tokens the e equations have by their counts, a true sum; the two arrays stand one after the other.
@@ -155,23 +148,23 @@ fn counted(f: Left, e: usize, b: &[u8]) -> usize
 }
 
 // The checks of equations: sizes present (1), 7, length (1), sum (6), then equation by equation.
-pub fn check(f: Left, l: u32, b: &[u8]) -> Answer
+pub fn check(f: Left, l: u32, b: &[u8]) -> Result<(), Refusal>
     requires { l ≤ 32 }
     ensures { result ≡ check_equations f l b.now }
 {
     if b.len() < 4 {
-        return Answer::Refused(Refusal::Torn);
+        return Err(Refusal::Torn);
     }
     let e = codec::number_at(b, 0) as usize;
     let m = codec::number_at(b, 2) as usize;
     if !((e <= EQUATIONS) & (m <= codec::TOKENS)) {
-        return Answer::Refused(Refusal::Long);
+        return Err(Refusal::Long);
     }
     if b.len() != 4 + 4 * e + 2 * m {
-        return Answer::Refused(Refusal::Torn);
+        return Err(Refusal::Torn);
     }
     if counted(f, e, b) != m {
-        return Answer::Refused(Refusal::Term);
+        return Err(Refusal::Term);
     }
     check_each(f, l, b)
 }

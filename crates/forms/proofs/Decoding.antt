@@ -1,6 +1,6 @@
 -- The words that a reader takes are those of the entries that are written. Assumes nothing.
 use mathlib.Core.Path.{◌≡◌, refl, sym, ap, subst, ◌∙◌}
-use mathlib.Core.Bool.{Bool, true, false, false≢true, ◌&&◌, and_assoc, and-true}
+use mathlib.Core.Bool.{Bool, true, false, ◌&&◌}
 use mathlib.Core.List.{List, [], ◌∷◌, map}
 use Prim.Native.Nat.{ℕ, zero, suc, ◌+◌, ◌-◌, ◌*◌, ◌≤◌, ◌<◌}
 use native.Mathlib.Nat.{zero-add, mul-zero, mul-suc}
@@ -8,14 +8,15 @@ use native.Mathlib.Numerals.{add-one}
 use native.Mathlib.Omega.{arith}
 use lib.ListN.{length, get_or, take, drop, length-map, length-drop, get_or-map}
 use lib.Seq.{length-take-le, take-nil, drop-drop}
+use Rattle.std.specs.Prelude.{Option, MatchOption}
 use Rattle.model.specs.Growth.{limit}
+use Rattle.words.specs.declared.Entry.{Entry}
 use Rattle.words.specs.Words.{entry, string, word, word_of}
 use Rattle.words.proofs.Words.{word_of_entry}
 use Rattle.tables.specs.Lists.{pairs, strings}
 use Rattle.tables.specs.Values.{clean, entry_at, all_clean}
 use Rattle.tables.proofs.Checking.{all_at, clean_is}
 use Rattle.lists.specs.WorkingLists.{Holds}
-use Rattle.packing.specs.declared.Unpacked.{Unpacked}
 use Rattle.packing.specs.Packing.{row_length, row_positions, unpacked, good_row, unpacked_row}
 use Rattle.codec.specs.Numbers.{word_at, rows}
 use Rattle.codec.proofs.Rows.{rows_count, rows_at, rows_from}
@@ -79,14 +80,15 @@ module _ (l n : ℕ) (b : List ℕ) where
 -- ---- Packed rows
 
 -- What unpacking a row has told.
-pub row_told : (l : ℕ) (row : List ℕ) {u : Unpacked} → u ≡ unpacked_row l row
-    → (u.good ≡ good_row l row) × (u.good ≡ true → u.entry ≡ entry (unpacked l row))
+pub row_told : (l : ℕ) (row : List ℕ) {u : Option Entry} → u ≡ unpacked_row l row
+    → MatchOption u (good_row l row ≡ false) (λ e. (good_row l row ≡ true) × (e ≡ entry (unpacked l row)))
 unfolding unpacked_row
 row_told l row {u = u} e = go (good_row l row) refl
   where
-    go : (g : Bool) → good_row l row ≡ g → (u.good ≡ good_row l row) × (u.good ≡ true → u.entry ≡ entry (unpacked l row))
-    go true h = (rw (e, h), λ good. rw (e, h))
-    go false h = (rw (e, h), λ good. absurd (false≢true (rw (e, h) at good)))
+    go : (g : Bool) → good_row l row ≡ g
+        → MatchOption u (good_row l row ≡ false) (λ e. (good_row l row ≡ true) × (e ≡ entry (unpacked l row)))
+    go true h = rw (e, h) (refl, refl)
+    go false h = rw (e, h) refl
 
 module _ (l : ℕ) (b : List ℕ) where
   -- The row at an index.
@@ -121,27 +123,25 @@ module _ (l n : ℕ) (b : List ℕ) where
       let m : n - 0 ≡ n = omega arith in
       rw (e, m)
 
-  -- a turn: one more row was tested
-  pub rows_tested : (i : ℕ) (good : Bool) → i < n → all_well Packed l n b ≡ (good && all_good l (rows_on i))
-      → all_well Packed l n b ≡ ((good && good_row l (row_at l b i)) && all_good l (rows_on (i + 1)))
+  -- a turn: one more row is tested
+  pub rows_tested : (i : ℕ) → i < n → all_well Packed l n b ≡ all_good l (rows_on i)
+      → all_well Packed l n b ≡ (good_row l (row_at l b i) && all_good l (rows_on (i + 1)))
   unfolding all_good
-  rows_tested i good lt e =
+  rows_tested i lt e =
       let k : ℕ = row_length l in
       let m : n - i ≡ suc (n - (i + 1)) = omega arith in
       let at : 4 + k * i + k ≡ 4 + k * (i + 1) = rw (add-one i, mul-suc k i) (omega arith) in
       let here : rows_on i ≡ row_at l b i ∷ rows_on (i + 1) =
       ap (λ (j : ℕ). rows k j (drop (4 + k * i) b)) m ∙ rows_from k (n - (i + 1)) (4 + k * i) b
       ∙ ap (λ (j : ℕ). row_at l b i ∷ rows k (n - (i + 1)) (drop j b)) at in
-      e ∙ ap (λ (rs : List (List ℕ)). good && all_good l rs) here
-      ∙ sym (and_assoc good (good_row l (row_at l b i)) (all_good l (rows_on (i + 1))))
+      e ∙ ap (all_good l) here
 
-  -- at the end all were
-  pub rows_ended : (i : ℕ) (good : Bool) → i ≡ n → all_well Packed l n b ≡ (good && all_good l (rows_on i))
-      → all_well Packed l n b ≡ good
+  -- at the end all were good
+  pub rows_ended : (i : ℕ) → i ≡ n → all_well Packed l n b ≡ all_good l (rows_on i) → all_well Packed l n b ≡ true
   unfolding all_good rows
-  rows_ended i good end e =
+  rows_ended i end e =
       let m : n - i ≡ 0 = omega (arith, end) in
-      e ∙ ap (λ (j : ℕ). good && all_good l (rows (row_length l) j (drop (4 + row_length l * i) b))) m ∙ and-true good
+      e ∙ ap (λ (j : ℕ). all_good l (rows (row_length l) j (drop (4 + row_length l * i) b))) m
 
   -- the words of good rows hold the entries
   pub rows_hold : (row : List ℕ) → l ≤ 32 → n ≤ limit → form_length Packed l n ≤ length b → length row ≡ limit

@@ -12,7 +12,7 @@ use Rattle.model.specs.Growth.{limit}
 use Rattle.tables.specs.declared.Table.{Table}
 use Rattle.tables.specs.declared.Refusal.{Refusal}
 use Rattle.tables.specs.declared.Refusal.TheVariants as R
-use Rattle.tables.specs.declared.Answer.TheVariants.{Accepted, Refused}
+use Rattle.tables.specs.Refusals.{Accepted, Refused}
 use Rattle.tables.specs.Refusals.{if_accepted}
 use Rattle.tables.specs.Values.{entries_of, good_width, zero_table, refuses, check_table, GoodTable}
 use Rattle.tables.proofs.Checking.{good_few, good_long, good_holds}

@@ -24,7 +24,7 @@ use Rattle.words.specs.Words.{string}
 use Rattle.words.proofs.Codec.{string_length}
 use Rattle.tables.specs.declared.Table.{Table}
 use Rattle.tables.specs.declared.Refusal.TheVariants as R
-use Rattle.tables.specs.declared.Answer.TheVariants.{Accepted}
+use Rattle.tables.specs.Refusals.{Accepted}
 use Rattle.tables.specs.declared.Answered.{Answered}
 use Rattle.tables.specs.Refusals.{answer_number}
 use Rattle.tables.specs.Lists.{strings, pairs}

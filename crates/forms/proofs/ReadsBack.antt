@@ -18,10 +18,11 @@ use Rattle.words.specs.declared.Entry.{Entry}
 use Rattle.words.specs.Words.{entry, care_of, value_of, string}
 use Rattle.words.proofs.Codec.{care_lt, value_lt, value_in}
 use Rattle.tables.specs.declared.Table.{Table}
-use Rattle.tables.specs.declared.Answer.TheVariants.{Accepted}
+use Rattle.tables.specs.Refusals.{Accepted}
 use Rattle.tables.specs.Lists.{padded, list_words, Stores, pairs, strings}
 use Rattle.tables.specs.Refusals.{if_accepted}
-use Rattle.tables.specs.Values.{table_of, entries_of, accepts, made_or_full, zero_table, clean, entry_at, all_from, all_clean, GoodTable}
+use Rattle.tables.specs.Values.{table_of, entries_of, accepts, made_or_full, zero_table, GoodTable}
+use Rattle.tables.specs.Values.{clean, entry_at, all_from, all_clean}
 use Rattle.tables.proofs.Arrays.{stores_at, stores_length}
 use Rattle.tables.proofs.Checking.{good_holds, width_most}
 use Rattle.packing.specs.Packing.{row_length, packed}

@@ -12,7 +12,7 @@ use Rattle.words.specs.declared.Entry.{Entry}
 use Rattle.words.specs.Words.{entry, string, Encodes}
 use Rattle.words.proofs.Codec.{string_of_entry}
 use Rattle.tables.specs.declared.Refusal.TheVariants as R
-use Rattle.tables.specs.declared.Answer.TheVariants.{Accepted, Refused}
+use Rattle.tables.specs.Refusals.{Accepted, Refused}
 use Rattle.tables.specs.Lists.{padded, list_words}
 use Rattle.tables.specs.Values.{table_of, good_width, GoodTable}
 use Rattle.tables.proofs.Arrays.{stores_at}

@@ -10,8 +10,7 @@ ghost use Rattle.forms.specs.TableForms.{word_length, form_length, written_at, w
 ghost use Rattle.forms.specs.TableForms.{read_entries, rows_of, entry_bytes};
 ghost use Rattle.forms.specs.Listings.{Reads};
 
-use crate::{Layout, Listed};
-use lists::Grown;
+use crate::{Layout, Sizes};
 use tables::{Answered, Refusal, Table};
 use words::Entry;
 
@@ -41,37 +40,26 @@ fn clean(l: u32, n: usize, b: &[u8]) -> bool
 {
     let full = words::full(l);
     let mut good = true;
-    let mut i = 0;
-    while i < n {
+    for i in 0..n {
         let e = entry_at(l, n, b, i);
-        good = good & ((e.care <= full) & ((e.value & e.care) == e.value));
-        i += 1;
+        good &= (e.care <= full) & ((e.value & e.care) == e.value);
     }
     good
 }
 
 // Grows a list, from the empty one, by the n entries of a plain form, all clean, in order.
-fn grow_plain(l: u32, n: usize, b: &[u8], list: &mut [u64; 256]) -> Grown
+fn grow_plain(l: u32, n: usize, b: &[u8], list: &mut [u64; 256]) -> Option<usize>
     requires { (l ≤ 32) × (n ≤ 256) × (form_length Plain l n ≤ length b.now) × (all_well Plain l n b.now ≡ true) }
     ensures { Makes l list.new result (grow_all [] (written_entries Plain l n b.now)) }
 {
     // As a slice its length is known.
     let whole: &[u64] = &*list;
     let mut k = 0;
-    let mut i = 0;
-    while i < n {
+    for i in 0..n {
         let y = words::word_of(entry_at(l, n, b, i));
-        match lists::growth::grow(list, k, l, y) {
-            Grown::Count(c) => {
-                k = c;
-            }
-            Grown::Full => {
-                return Grown::Full;
-            }
-        }
-        i += 1;
+        k = lists::growth::grow(list, k, l, y)?;
     }
-    Grown::Count(k)
+    Some(k)
 }
 
 // Reads the n written entries of a packed form as words. Is each row good: no byte of 243 or more, every unused digit 0?
@@ -80,47 +68,43 @@ fn read_rows(l: u32, n: usize, b: &[u8], row: &mut [u64; 256]) -> bool
     ensures clean { result ≡ all_well Packed l n b.now }
     ensures made { result ≡ true → Holds l row.new n (written_entries Packed l n b.now) }
 {
-    // As a slice its length is known.
-    let whole: &[u64] = &*row;
     let table = packing::digits::table();
     let k = packing::row_length(l);
-    let mut good = true;
-    let mut i = 0;
-    while i < n {
+    for i in 0..n {
         let at = 4 + k * i;
-        let read = packing::unpack(&table, l, &b[at..at + k]);
-        good = good & read.good;
-        row[i] = words::word_of(read.entry);
-        i += 1;
+        let Some(e) = packing::unpack(&table, l, &b[at..at + k]) else {
+            return false;
+        };
+        row[i] = words::word_of(e);
     }
-    good
+    true
 }
 
 // What comes of reading where the entries were grown. It is never full: a form has at most 256 entries.
-fn listed(l: u32, g: Grown) -> Listed
+fn listed(l: u32, g: Option<usize>) -> Result<Sizes, Refusal>
     ensures { (list : List ℕ) (o : Option Entries) → good_width l ≡ true → Makes l list g o
         → Reads list result (made_or_full l zero_table o) }
 {
     match g {
-        Grown::Count(n) => Listed::Read { l: l, n: n },
-        Grown::Full => Listed::Refused(Refusal::Full),
+        Some(n) => Ok(Sizes { l: l, n: n }),
+        None => Err(Refusal::Full),
     }
 }
 
 // Reads n plain entries: 4 by entry, then they are grown.
-fn read_plain(l: u32, n: usize, b: &[u8], list: &mut [u64; 256]) -> Listed
+fn read_plain(l: u32, n: usize, b: &[u8], list: &mut [u64; 256]) -> Result<Sizes, Refusal>
     requires { (good_width l ≡ true) × (n ≤ 256) × (form_length Plain l n ≤ length b.now) }
     ensures { Reads list.new result (read_entries Plain l n b.now) }
 {
     if !clean(l, n, b) {
-        return Listed::Refused(Refusal::Stray);
+        return Err(Refusal::Stray);
     }
     let g = grow_plain(l, n, b, list);
     listed(l, g)
 }
 
 // Reads n packed entries: 12 by entry, then they are grown.
-fn read_packed(l: u32, n: usize, b: &[u8], list: &mut [u64; 256]) -> Listed
+fn read_packed(l: u32, n: usize, b: &[u8], list: &mut [u64; 256]) -> Result<Sizes, Refusal>
     requires { (good_width l ≡ true) × (n ≤ 256) × (form_length Packed l n ≤ length b.now) }
     ensures { Reads list.new result (read_entries Packed l n b.now) }
 {
@@ -128,14 +112,20 @@ fn read_packed(l: u32, n: usize, b: &[u8], list: &mut [u64; 256]) -> Listed
     let whole: &[u64] = &*list;
     let mut row = [0u64; 256];
     if !read_rows(l, n, b, &mut row) {
-        return Listed::Refused(Refusal::Digit);
+        return Err(Refusal::Digit);
     }
     let g = lists::growth::grow_each(list, 0, l, &row, n);
     listed(l, g)
 }
 
 // Reads n written entries into a list.
-pub fn read_listed(layout: Layout, l: u32, n: usize, b: &[u8], list: &mut [u64; 256]) -> Listed
+pub fn read_listed(
+    layout: Layout,
+    l: u32,
+    n: usize,
+    b: &[u8],
+    list: &mut [u64; 256],
+) -> Result<Sizes, Refusal>
     requires { (good_width l ≡ true) × (n ≤ 256) × (form_length layout l n ≤ length b.now) }
     ensures { Reads list.new result (read_entries layout l n b.now) }
 {
@@ -153,12 +143,10 @@ fn write_plain(l: u32, n: usize, list: &[u64; 256], out: &mut [u8])
 {
     let k = word_length(l);
     let values = 4 + k * n;
-    let mut i = 0;
-    while i < n {
-        let e = words::entry_of(list[i]);
+    for (i, &y) in list[..n].iter().enumerate() {
+        let e = words::entry_of(y);
         codec::write_word(out, 4 + k * i, k, e.care);
         codec::write_word(out, values + k * i, k, e.value);
-        i += 1;
     }
 }
 
@@ -168,11 +156,9 @@ fn write_rows(l: u32, n: usize, list: &[u64; 256], out: &mut [u8])
     ensures { (τ : Entries) → Holds l list.now n τ → out.new ≡ sets out.old 4 (rows_of τ) }
 {
     let k = packing::row_length(l);
-    let mut i = 0;
-    while i < n {
-        let e = words::entry_of(list[i]);
+    for (i, &y) in list[..n].iter().enumerate() {
+        let e = words::entry_of(y);
         packing::pack(l, e, out, 4 + k * i);
-        i += 1;
     }
 }
 

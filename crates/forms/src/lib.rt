@@ -6,7 +6,7 @@ pub mod entries; // the entries of a table in a form, plain or packed
 
 ghost use Rattle.std.specs.Prelude.{◌≡◌, true, ◌≤◌, length};
 ghost use Rattle.model.specs.Growth.{Entries};
-ghost use Rattle.tables.specs.declared.Answer.TheVariants.{Accepted};
+ghost use Rattle.tables.specs.Refusals.{Accepted};
 ghost use Rattle.tables.specs.Values.{table_of, good_width};
 ghost use Rattle.lists.specs.WorkingLists.{Holds};
 ghost use Rattle.forms.specs.declared.Extent.TheVariants.{Whole, Front};
@@ -14,27 +14,27 @@ ghost use Rattle.forms.specs.declared.Layout.TheVariants.{Plain, Packed};
 ghost use Rattle.forms.specs.TableForms.{form_length, front_length, fits, read_form, form_of, form_answer, written};
 ghost use Rattle.forms.specs.Listings.{Reads};
 
-use tables::{Answer, Answered, Refusal, Table};
+use tables::{Answered, Refusal, Table};
 
 // Where a form ends: it is all the bytes, or more may follow it.
-#[derive(Clone, Copy)]
+#[derive(Clone, Copy, Debug, PartialEq, Eq)]
 pub enum Extent {
     Whole,
     Front,
 }
 
 // How a form has its entries: care and value words, or a row of bytes each, five positions to a byte.
-#[derive(Clone, Copy)]
+#[derive(Clone, Copy, Debug, PartialEq, Eq)]
 pub enum Layout {
     Plain,
     Packed,
 }
 
-// What comes of reading a form into a list that is lent: a refusal, or so many entries of it, of so many variables.
+// What a form that was read into a list has: l variables, and n entries of the list.
 #[derive(Clone, Copy)]
-pub enum Listed {
-    Refused(Refusal),
-    Read { l: u32, n: usize },
+pub struct Sizes {
+    pub l: u32,
+    pub n: usize,
 }
 
 // May a form of that length be read from so many bytes?
@@ -59,22 +59,27 @@ fn form_length(layout: Layout, l: u32, n: usize) -> usize
 }
 
 // Reads the entries of a form into a list: sizes present (1), 2, 3, length (1), 4 or, packed, 12 by entry.
-pub fn read_list(layout: Layout, extent: Extent, b: &[u8], list: &mut [u64; 256]) -> Listed
+pub fn read_list(
+    layout: Layout,
+    extent: Extent,
+    b: &[u8],
+    list: &mut [u64; 256],
+) -> Result<Sizes, Refusal>
     ensures { Reads list.new result (read_form layout extent b.now) }
 {
     if b.len() < 4 {
-        return Listed::Refused(Refusal::Torn);
+        return Err(Refusal::Torn);
     }
     let l = codec::number_at(b, 0) as u32;
     let n = codec::number_at(b, 2) as usize;
     if !tables::good_width(l) {
-        return Listed::Refused(Refusal::Width);
+        return Err(Refusal::Width);
     }
     if Table::ENTRIES < n {
-        return Listed::Refused(Refusal::Entries);
+        return Err(Refusal::Entries);
     }
     if !fits(extent, form_length(layout, l, n), b.len()) {
-        return Listed::Refused(Refusal::Torn);
+        return Err(Refusal::Torn);
     }
     entries::read_listed(layout, l, n, b, list)
 }
@@ -85,9 +90,9 @@ pub fn read(layout: Layout, extent: Extent, b: &[u8]) -> Answered
 {
     let mut list = [0u64; 256];
     match read_list(layout, extent, b, &mut list) {
-        Listed::Refused(r) => tables::refused(r),
-        Listed::Read { l, n } => Answered {
-            answer: Answer::Accepted,
+        Err(r) => tables::refused(r),
+        Ok(Sizes { l, n }) => Answered {
+            answer: Ok(()),
             table: lists::values::table(l, n, &list),
         },
     }
@@ -120,40 +125,42 @@ pub fn front_length(b: &[u8]) -> usize
 
 // Writes the form of the table whose n entries, of l positions, a list holds: 9 where the output is too short. A refusal
 // writes nothing.
-pub fn write_list(layout: Layout, l: u32, n: usize, list: &[u64; 256], out: &mut [u8]) -> Answer
+pub fn write_list(
+    layout: Layout,
+    l: u32,
+    n: usize,
+    list: &[u64; 256],
+    out: &mut [u8],
+) -> Result<(), Refusal>
     requires { (good_width l ≡ true) × ((τ : Entries) × Holds l list.now n τ) }
     ensures { (τ : Entries) → Holds l list.now n τ
         → (result ≡ form_answer layout (table_of l τ) (length out.old))
         × (out.new ≡ written result (form_of layout (table_of l τ)) out.old) }
 {
     if out.len() < form_length(layout, l, n) {
-        return Answer::Refused(Refusal::Narrow);
+        return Err(Refusal::Narrow);
     }
     codec::write_number(out, 0, l);
     codec::write_number(out, 2, n as u32);
     entries::write_listed(layout, l, n, list, out);
-    Answer::Accepted
+    Ok(())
 }
 
 // Writes the entries of a table as they are: 2, 3, 4, then 9. A refusal writes nothing.
-pub fn write(layout: Layout, t: Table, out: &mut [u8]) -> Answer
+pub fn write(layout: Layout, t: Table, out: &mut [u8]) -> Result<(), Refusal>
     ensures answer { result ≡ form_answer layout t (length out.old) }
     ensures bytes { out.new ≡ written result (form_of layout t) out.old }
 {
-    match tables::check(t) {
-        Answer::Refused(r) => Answer::Refused(r),
-        Answer::Accepted => {
-            let l = t.l;
-            let n = t.n;
-            let mut list = [0u64; 256];
-            lists::values::load(&t.care, &t.value, n, &mut list);
-            write_list(layout, l, n, &list, out)
-        }
-    }
+    tables::check(t)?;
+    let l = t.l;
+    let n = t.n;
+    let mut list = [0u64; 256];
+    lists::values::load(&t.care, &t.value, n, &mut list);
+    write_list(layout, l, n, &list, out)
 }
 
 // Writes the plain form.
-pub fn write_table(t: Table, out: &mut [u8]) -> Answer
+pub fn write_table(t: Table, out: &mut [u8]) -> Result<(), Refusal>
     ensures answer { result ≡ form_answer Plain t (length out.old) }
     ensures bytes { out.new ≡ written result (form_of Plain t) out.old }
 {
@@ -161,7 +168,7 @@ pub fn write_table(t: Table, out: &mut [u8]) -> Answer
 }
 
 // Writes the packed form.
-pub fn write_packed(t: Table, out: &mut [u8]) -> Answer
+pub fn write_packed(t: Table, out: &mut [u8]) -> Result<(), Refusal>
     ensures answer { result ≡ form_answer Packed t (length out.old) }
     ensures bytes { out.new ≡ written result (form_of Packed t) out.old }
 {

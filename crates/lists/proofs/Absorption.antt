@@ -27,7 +27,7 @@ use Rattle.model.proofs.Tests.{or_cases, or_left, or_right}
 use Rattle.words.specs.Words.{word, zero_word, fixed_word, care_of, high, low, halves, subsumes_word}
 use Rattle.words.proofs.Halves.{care_word, word_lt, fixed_lt, low_lt, halves_or}
 use Rattle.words.proofs.Words.{word_subsumes, zero_string}
-use Rattle.lists.specs.declared.Grown.TheVariants.{Count}
+use Rattle.lists.specs.WorkingLists.{Count}
 use Rattle.lists.specs.WorkingLists.{Holds, Makes, makes}
 use Rattle.lists.specs.Filters.{Idle, QuietFrom, Noted, Slot, slots, filter_size, string_at, note_at, version_index}
 use Rattle.lists.specs.Filters.{version, Filters, Seen}

@@ -4,8 +4,8 @@ use mathlib.Core.List.{List}
 use mathlib.Core.Option.{Option, some, none}
 use Prim.Native.Nat.{ℕ}
 use Rattle.model.specs.Growth.{◌>>=◌, Entries}
-use Rattle.lists.specs.declared.Grown.{Grown}
-use Rattle.lists.specs.declared.Grown.TheVariants.{Count, Full}
+use Rattle.lists.specs.WorkingLists.{Grown}
+use Rattle.lists.specs.WorkingLists.{Count, Full}
 use Rattle.lists.specs.WorkingLists.{Holds, Makes, stops}
 use Rattle.lists.proofs.Holding.{makes_count, makes_full}
 

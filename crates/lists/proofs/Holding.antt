@@ -8,22 +8,28 @@ use native.Mathlib.Nat.{not-suc-le-zero}
 use native.Mathlib.Omega.{arith}
 use borrow.Author.Tests.{eqb-true, eqb-false}
 use lib.Dec.{eqb}
-use lib.ListN.{length, get_or, set, length-append, length-set, get_or-append}
+use lib.ListN.{length, get_or, set, take, length-append, length-set, get_or-append}
 use lib.Seq.{get_or_at, get_or-set_same, get_or-set_other}
+use Rattle.std.proofs.lemmas.List.{get_or-take}
 use Rattle.model.specs.Strings.{Trits}
 use Rattle.model.specs.Growth.{Entries, limit}
 use Rattle.model.specs.Tables.{Wide}
 use Rattle.model.proofs.Shape.{wide_append}
 use Rattle.words.specs.Words.{word}
 use Rattle.tables.proofs.Arrays.{wide_at}
-use Rattle.lists.specs.declared.Grown.{Grown}
-use Rattle.lists.specs.declared.Grown.TheVariants.{Count, Full}
+use Rattle.lists.specs.WorkingLists.{Grown}
+use Rattle.lists.specs.WorkingLists.{Count, Full}
 use Rattle.lists.specs.WorkingLists.{Holds, Within, Makes, makes, stops}
 
 -- each string of the list has l positions
 pub holds_length : {l : ℕ} {list : List ℕ} {n : ℕ} {τ : Entries} → Holds l list n τ → (i : ℕ) → i < n
     → length (get_or τ i []) ≡ l
 holds_length {l = l} {τ = τ} h i lt = wide_at l τ i h.good.wide (omega (arith, h.count))
+
+-- the slice of the first n words, which a loop goes over, has their words
+pub holds_slice : {l : ℕ} {list : List ℕ} {n : ℕ} {τ : Entries} → Holds l list n τ → (i : ℕ) → i < n
+    → get_or (take n list) i 0 ≡ word (get_or τ i [])
+holds_slice {list = list} {n = n} h i lt = get_or-take n list i 0 lt ∙ h.here i lt
 
 -- any array of 256 words holds the empty list
 pub holds_empty : (l : ℕ) (list : List ℕ) → length list ≡ limit → l ≤ 32 → Holds l list 0 []

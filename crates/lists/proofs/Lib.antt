@@ -1,10 +1,12 @@
 pub mod Holding
 pub mod SoFar
+pub mod Slices
 pub mod BindLaws
 pub mod RowLoops
 pub mod WordTests
 pub mod NearEntries
 pub mod WideningByPasses
+pub mod Passes
 pub mod Edges
 pub mod Guards
 pub mod Growing

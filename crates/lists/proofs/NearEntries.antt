@@ -9,17 +9,20 @@ use native.Mathlib.Numerals.{add-one}
 use borrow.Author.Tests.{lt-ltb, eqb-true, eqb-false}
 use lib.Bits.{bit_or, or_zero_l}
 use lib.Dec.{T, eqb}
-use lib.ListN.{length, get_or, set, take, length-append, get_or-append}
-use lib.Seq.{get_or_at, get_or-set_same, get_or-set_other, take-suc, take-length}
+use lib.ListN.{length, get_or, set, take, drop, length-append, get_or-append, length-take, length-drop}
+use borrow.Rule.Slice.PartMut.{mid_of, post_of, put_mid, same_len_mid}
+use Rattle.std.proofs.lemmas.List.{get_or-take, get_or-append-add}
+use lib.Seq.{get_or_at, get_or-set_same, get_or-set_other, get_or-drop, take-suc, take-length, length-take-le}
 use Rattle.model.specs.Groups.{or}
 use Rattle.model.specs.Strings.{Trits, subsumes_digit, subsumes}
-use Rattle.model.specs.Growth.{Entries, subsumed}
+use Rattle.model.specs.Growth.{Entries, limit, subsumed}
 use Rattle.model.specs.Tables.{Wide}
 use Rattle.model.proofs.Subsuming.{digit_trans}
 use Rattle.model.proofs.Tests.{tests, true_of}
 use Rattle.words.specs.Words.{word, set_word, lack_count, near, openings, shade_word}
 use Rattle.words.proofs.Codec.{set_word_or}
 use Rattle.words.proofs.Shades.{far_none}
+use Rattle.lists.specs.WorkingLists.{Holds}
 use Rattle.lists.specs.Widening.{near_list, open_set, half, Gathered, Shaded}
 
 -- ---- Of a string t that subsumes s
@@ -169,34 +172,35 @@ module _ {f : Trits → ℕ} {list : List ℕ} {k i : ℕ} {τ : Entries} {s : T
 
 -- ---- Their shades
 
--- Of the k words gathered, the first i are the shades for s, the others still the words.
-pub record ShadedSoFar (s : Trits) (list : List ℕ) (k : ℕ) (ν : Entries) (i : ℕ) : Type 0 where
-  pub done : (m : ℕ) → m < i → get_or list (half + m) 0 ≡ shade_word (word (get_or ν m [])) (word s)
-  pub ahead : (m : ℕ) → i ≤ m → m < k → get_or list (half + m) 0 ≡ word (get_or ν m [])
-  pub count : k ≡ length ν
+-- the part of the k words gathered, each made its shade for y, put back
+module _ (list part : List ℕ) {k q : ℕ} (e : q ≡ k) (few : k ≤ half) (room : length list ≡ limit)
+    (as_long : length part ≡ length (mid_of half q list)) where
+  front : length (take half list) ≡ half
+  front = length-take-le half list (omega arith)
 
--- none yet
-pub shade_start : (s : Trits) {list : List ℕ} {k : ℕ} {ν : Entries} → Gathered word list k ν → ShadedSoFar s list k ν 0
-shade_start s g = record { done = λ m lt. absurd (omega arith); ahead = λ m a lt. g.here m lt; count = g.count }
+  -- what stands before it stays
+  pub put_back_holds : {l n : ℕ} {τ : Entries} → Holds l list n τ → n ≤ half → Holds l (put_mid half q list part) n τ
+  put_back_holds h le = record {
+    here = λ i lt.
+        get_or-append (take half list) (part ++ post_of half q list) 0 i (omega (arith, front))
+        ∙ get_or-take half list i 0 (omega arith)
+        ∙ h.here i lt;
+    room = same_len_mid half q list part as_long ∙ room;
+    count = h.count;
+    good = h.good;
+    short = h.short;
+  }
 
-module _ {s : Trits} {list : List ℕ} {k : ℕ} {ν : Entries} {i : ℕ} (g : ShadedSoFar s list k ν i) where
-  -- one more
-  pub shade_turn : {y : ℕ} → y ≡ shade_word (word (get_or ν i [])) (word s) → half + i < length list
-      → ShadedSoFar s (set list (half + i) y) k ν (i + 1)
-  shade_turn {y} is room = record {
-    done = λ m lt. go m lt (eqb m i) refl;
-    ahead = λ m a lt.
-        get_or-set_other list (half + i) (half + m) y 0 (λ e. absurd (omega (arith, e))) ∙ g.ahead m (omega arith) lt;
+  -- it has the shades
+  pub put_back_shades : {ν : Entries} (s : Trits) {y : ℕ} → Gathered word list k ν → y ≡ word s
+      → ((m : ℕ) → m < k → get_or part m 0 ≡ shade_word (get_or (mid_of half q list) m 0) y)
+      → Shaded s (put_mid half q list part) k ν
+  put_back_shades s g is shades = record {
+    here = λ m lt.
+        ap (λ (j : ℕ). get_or (put_mid half q list part) (j + m) 0) (sym front)
+        ∙ get_or-append-add (take half list) (part ++ post_of half q list) m 0
+        ∙ get_or-append part (post_of half q list) 0 m (omega (arith, length-take q (drop half list), length-drop half list))
+        ∙ shades m lt
+        ∙ ap₂ shade_word (get_or-take q (drop half list) m 0 (omega arith) ∙ get_or-drop half list m 0 ∙ g.here m lt) is;
     count = g.count;
   }
-    where
-      go : (m : ℕ) → m < i + 1 → (b : Bool) → eqb m i ≡ b
-          → get_or (set list (half + i) y) (half + m) 0 ≡ shade_word (word (get_or ν m [])) (word s)
-      go m lt true q = rw (eqb-true m i q, get_or-set_same list (half + i) y 0 room) is
-      go m lt false q =
-          let other = eqb-false m i q in
-          get_or-set_other list (half + i) (half + m) y 0 (λ d. other (omega (arith, d))) ∙ g.done m (omega (arith, other))
-
-  -- all of them
-  pub shade_end : k ≤ i → Shaded s list k ν
-  shade_end le = record { here = λ m lt. g.done m (omega arith); count = g.count }

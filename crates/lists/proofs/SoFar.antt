@@ -8,8 +8,8 @@ use native.Mathlib.Numerals.{add-one}
 use lib.ListN.{length, get_or, drop, drop_of_length-le}
 use lib.Seq.{drop-cons}
 use Rattle.model.specs.Growth.{◌>>=◌, fold, Entries}
-use Rattle.lists.specs.declared.Grown.{Grown}
-use Rattle.lists.specs.declared.Grown.TheVariants.{Count, Full}
+use Rattle.lists.specs.WorkingLists.{Grown}
+use Rattle.lists.specs.WorkingLists.{Count, Full}
 use Rattle.lists.specs.WorkingLists.{Holds, Makes, makes, stops}
 use Rattle.lists.proofs.Holding.{makes_count, makes_full}
 

@@ -8,7 +8,8 @@ use native.Mathlib.Omega.{arith}
 use borrow.Author.Tests.{eqb-true, eqb-false}
 use lib.Bits.{bit_and, bit_or}
 use lib.Dec.{T, eqb}
-use lib.ListN.{length, get_or}
+use lib.ListN.{length, get_or, take, length-take}
+use Rattle.std.proofs.lemmas.List.{get_or-take}
 use Rattle.model.specs.Strings.{Trits, subsumes, fixed, flipped}
 use Rattle.model.specs.Growth.{Entries, subsumed}
 use Rattle.model.specs.Widest.{EntryOf}
@@ -50,20 +51,24 @@ sum_turn part sum i f p is m lt = go (eqb m i) refl
     go false e = let other = eqb-false m i e in λ k h. fixed_left k sum p (f m (omega (arith, other)) k h)
 
 module _ {list : List ℕ} {n y lacks over : ℕ} {found : Bool} {i : ℕ} (w : ScannedSoFar list n y lacks over found i) where
-  pub scanned_turn : i < n → {p q : ℕ} {b : Bool} → p ≡ lone_lack (get_or list i 0) y → q ≡ if_over (get_or list i 0) y
-      → b ≡ subsumes_word (get_or list i 0) y → ScannedSoFar list n y (bit_or lacks p) (bit_or over q) (found || b) (i + 1)
-  scanned_turn lt {p} {q} {b} is_p is_q is_b = record {
-    lacking = sum_turn (λ m. lone_lack (get_or list m 0) y) lacks i w.lacking p is_p;
-    holding = sum_turn (λ m. if_over (get_or list m 0) y) over i w.holding q is_q;
-    some = scan_turn some_scan _ _ found i _ w.some lt b is_b;
-  }
+  pub scanned_turn : i < length (take n list) → {p q : ℕ} {b : Bool} → p ≡ lone_lack (get_or (take n list) i 0) y
+      → q ≡ if_over (get_or (take n list) i 0) y → b ≡ subsumes_word (get_or (take n list) i 0) y
+      → ScannedSoFar list n y (bit_or lacks p) (bit_or over q) (found || b) (i + 1)
+  scanned_turn lt {p} {q} {b} is_p is_q is_b =
+      let below : i < n = omega (arith, length-take n list) in
+      let e = get_or-take n list i 0 below in record {
+        lacking = sum_turn (λ m. lone_lack (get_or list m 0) y) lacks i w.lacking p (rw e at is_p);
+        holding = sum_turn (λ m. if_over (get_or list m 0) y) over i w.holding q (rw e at is_q);
+        some = scan_turn some_scan _ _ found i _ w.some below b (rw e at is_b);
+      }
 
-  pub scanned_end : n ≤ i → i ≤ n → Scanned list n y lacks over found
-  scanned_end le ge = record {
-    lacking = λ m lt. w.lacking m (omega arith);
-    holding = λ m lt. w.holding m (omega arith);
-    some = scan_end some_scan _ _ found i _ w.some le;
-  }
+  pub scanned_end : n ≤ length list → length (take n list) ≤ i → Scanned list n y lacks over found
+  scanned_end room all =
+      let le : n ≤ i = omega (arith, length-take n list) in record {
+        lacking = λ m lt. w.lacking m (omega arith);
+        holding = λ m lt. w.holding m (omega arith);
+        some = scan_end some_scan _ _ found i _ w.some le;
+      }
 
 -- ---- What it says
 

@@ -21,9 +21,10 @@ use Rattle.tables.specs.declared.Answered.{Answered}
 use Rattle.tables.specs.Lists.{zero_entry, padded, list_words}
 use Rattle.tables.specs.Values.{table_of, accepts, refuses, made_or_full, entries_of, GoodTable}
 use Rattle.tables.proofs.Arrays.{list_words_at}
-use Rattle.lists.specs.declared.Grown.{Grown}
-use Rattle.lists.specs.declared.Grown.TheVariants.{Count, Full}
-use Rattle.lists.specs.declared.values.Came.{Came}
+use Rattle.lists.specs.WorkingLists.{Grown}
+use Rattle.lists.specs.WorkingLists.{Count, Full}
+use Rattle.lists.specs.Comings.{Coming}
+use Rattle.lists.specs.Comings as C
 use Rattle.lists.specs.WorkingLists.{Holds, Makes}
 use Rattle.lists.specs.Comings.{Bounded, Comes, turned, stayed, counted}
 use Rattle.lists.proofs.Holding.{makes_count, makes_full, run_turn, run_stays}
@@ -101,43 +102,43 @@ column_table {l = l} {i = i} {τ = τ} few count end cs vs =
 
 module _ {l : ℕ} {list : List ℕ} {g : Grown} {o : Option Entries} (made : Makes l list g o) (t : Table) where
   -- its count
-  pub made_counted : {n : ℕ} → g ≡ Count n → Comes l t list (Came.Count n) (made_or_full l t o)
+  pub made_counted : {n : ℕ} → g ≡ Count n → Comes l t list (C.Count n) (made_or_full l t o)
   unfolding made_or_full
   made_counted e = let m = makes_count made e in rw m.1 (counted m.2)
 
   -- or 8
-  pub full_turned : g ≡ Full → Comes l t list (Came.Refused R.Full) (made_or_full l t o)
+  pub full_turned : g ≡ Full → Comes l t list (C.Refused R.Full) (made_or_full l t o)
   unfolding made_or_full
   full_turned e = rw (makes_full made e) (turned R.Full)
 
 -- ---- What came of a call, by its case
 
 -- a refusal
-pub came_refused : {l : ℕ} {t : Table} {list : List ℕ} {came : Came} {a : Answered} {r : Refusal} → Comes l t list came a
-    → came ≡ Came.Refused r → refuses r t ≡ a
+pub came_refused : {l : ℕ} {t : Table} {list : List ℕ} {came : Coming} {a : Answered} {r : Refusal} → Comes l t list came a
+    → came ≡ C.Refused r → refuses r t ≡ a
 came_refused {t = t} {r = r} (turned q) e = let same : r ≡ q = cc in ap (λ (x : Refusal). refuses x t) same
 came_refused stayed e = absurd (let z : ◌≡◌ {A = ℕ} 0 1 = cc in omega arith)
 came_refused (counted h) e = absurd (let z : ◌≡◌ {A = ℕ} 0 1 = cc in omega arith)
 
 -- the table as it was given
-pub came_same : {l : ℕ} {t : Table} {list : List ℕ} {came : Came} {a : Answered} → Comes l t list came a → came ≡ Came.Same
+pub came_same : {l : ℕ} {t : Table} {list : List ℕ} {came : Coming} {a : Answered} → Comes l t list came a → came ≡ C.Same
     → accepts t ≡ a
 came_same (turned q) e = absurd (let z : ◌≡◌ {A = ℕ} 0 1 = cc in omega arith)
 came_same stayed e = refl
 came_same (counted h) e = absurd (let z : ◌≡◌ {A = ℕ} 0 1 = cc in omega arith)
 
 -- the entries of the list
-pub came_count : {l : ℕ} {t : Table} {list : List ℕ} {came : Came} {a : Answered} {n : ℕ} → Comes l t list came a
-    → came ≡ Came.Count n → (τ : Entries) × Holds l list n τ × (a ≡ accepts (table_of l τ))
+pub came_count : {l : ℕ} {t : Table} {list : List ℕ} {came : Coming} {a : Answered} {n : ℕ} → Comes l t list came a
+    → came ≡ C.Count n → (τ : Entries) × Holds l list n τ × (a ≡ accepts (table_of l τ))
 came_count (turned q) e = absurd (let z : ◌≡◌ {A = ℕ} 0 1 = cc in omega arith)
 came_count stayed e = absurd (let z : ◌≡◌ {A = ℕ} 0 1 = cc in omega arith)
 came_count {n = n} (counted {n = m} {τ = τ} h) e = (τ, (let same : n ≡ m = cc in rw same h), refl)
 
 -- the count that came is within the limit
-pub bounded_count : {came : Came} {n : ℕ} → Bounded came → came ≡ Came.Count n → n ≤ limit
+pub bounded_count : {came : Coming} {n : ℕ} → Bounded came → came ≡ C.Count n → n ≤ limit
 bounded_count w e = rw e at w
 
 -- a good table as it was given is the table of its entries
 pub good_stayed : {t : Table} → GoodTable t → (list : List ℕ)
-    → Comes t.l t list Came.Same (accepts (table_of t.l (entries_of t)))
-good_stayed {t} g list = subst (λ (u : Table). Comes t.l t list Came.Same (accepts u)) g.same stayed
+    → Comes t.l t list C.Same (accepts (table_of t.l (entries_of t)))
+good_stayed {t} g list = subst (λ (u : Table). Comes t.l t list C.Same (accepts u)) g.same stayed

@@ -6,24 +6,24 @@ use Prim.Native.Nat.{ℕ, zero, suc, ◌+◌, ◌-◌, ◌/◌, ◌^◌, ◌≤�
 use native.Mathlib.Nat.{zero-add, suc-add}
 use native.Mathlib.Numerals.{add-one}
 use native.Mathlib.Omega.{arith}
-use lib.Bits.{bit_or}
+use borrow.Author.Tests.{le-ltb, lt-ltb}
 use lib.Count.{count_trailing_zeros}
 use lib.Dec.{T, ltb}
-use lib.ListN.{length, get_or, take, drop}
+use lib.ListN.{length, get_or, drop}
 use lib.Pow.{shr_le}
-use lib.Seq.{take-suc, take-length, get_or-drop}
+use lib.Seq.{get_or-drop}
 use Rattle.model.specs.Groups.{Bits, or}
 use Rattle.model.specs.Strings.{Trits, subsumes, fixed, fixed_count, flipped, starred}
 use Rattle.model.specs.Growth.{Entries, subsumed, widen_at, widen_from, widen}
 use Rattle.model.specs.Tables.{Wide}
 use Rattle.model.proofs.Bits.{or_nil, bits_or_assoc}
-use Rattle.model.proofs.Entries.{subsumed_append, subsumed_within}
+use Rattle.model.proofs.Entries.{subsumed_within}
 use Rattle.model.proofs.Positions.{starred_length}
 use Rattle.model.proofs.Stability.{fixed_within, flipped_within, over_starred}
 use Rattle.model.proofs.Subsuming.{subsumes_same}
 use Rattle.model.proofs.Tests.{and_first, and_second, and_both, true_of, false_of}
 use Rattle.words.specs.Words.{word, set_word, openings}
-use Rattle.words.proofs.Codec.{set_word_or, set_word_drop, First, trailing_first, empty_none}
+use Rattle.words.proofs.Codec.{set_word_drop, First, trailing_first, empty_none}
 use Rattle.tables.proofs.Tests.{both_true}
 use Rattle.lists.specs.Widening.{open_set, Ready, OfWidened}
 use Rattle.words.proofs.LackedBits.{openings_at}
@@ -48,43 +48,12 @@ open_at (e ∷ τ) y i w =
     ∙ ap₂ ◌||◌ (openings_at e y i w.0) (open_at τ y i w.1)
     ∙ sym (and-or_distrib_left (fixed i y) (subsumes e (flipped i y)) (subsumed τ (flipped i y)))
 
-open_snoc : (τ : Entries) (e y : Trits) → open_set (τ ++ (e ∷ [])) y ≡ or (open_set τ y) (openings e y)
+-- one entry more
+pub open_snoc : (τ : Entries) (e y : Trits) → open_set (τ ++ (e ∷ [])) y ≡ or (open_set τ y) (openings e y)
 unfolding open_set
 open_snoc [] e y = or_nil (openings e y) ∙ (unfold or in refl)
 open_snoc (s ∷ τ) e y =
     ap (or (openings s y)) (open_snoc τ e y) ∙ sym (bits_or_assoc (openings s y) (open_set τ y) (openings e y))
-
--- the pass: what the first i entries open
-module _ (τ : Entries) (y : Trits) where
-  pub open_turn : (found i : ℕ) → i < length τ → found ≡ set_word (open_set (take i τ) y) → (hit : ℕ)
-      → hit ≡ set_word (openings (get_or τ i []) y)
-      → bit_or found hit ≡ set_word (open_set (take (i + 1) τ) y)
-  open_turn found i lt so_far hit e =
-      ap₂ bit_or so_far e
-      ∙ sym (set_word_or (open_set (take i τ) y) (openings (get_or τ i []) y))
-      ∙ ap set_word (sym (open_snoc (take i τ) (get_or τ i []) y))
-      ∙ ap (λ (r : Entries). set_word (open_set r y)) (sym (take-suc τ i [] lt))
-      ∙ ap (λ (k : ℕ). set_word (open_set (take k τ) y)) (sym (add-one i))
-
-  pub open_end : (found i : ℕ) → i ≡ length τ → found ≡ set_word (open_set (take i τ) y) → found ≡ set_word (open_set τ y)
-  open_end found i e so_far =
-      so_far
-      ∙ ap (λ (k : ℕ). set_word (open_set (take k τ) y)) e
-      ∙ ap (λ (r : Entries). set_word (open_set r y)) (take-length τ)
-
-  -- whether one of the first i entries subsumes y
-  pub subsumed_turn : (found : Bool) (i : ℕ) → i < length τ → found ≡ subsumed (take i τ) y → (hit : Bool)
-      → hit ≡ subsumes (get_or τ i []) y → (found || hit) ≡ subsumed (take (i + 1) τ) y
-  unfolding subsumed
-  subsumed_turn found i lt so_far hit e =
-      ap₂ ◌||◌ so_far (e ∙ sym (or-false (subsumes (get_or τ i []) y)))
-      ∙ sym (subsumed_append (take i τ) (get_or τ i [] ∷ []) y)
-      ∙ ap (λ (r : Entries). subsumed r y) (sym (take-suc τ i [] lt))
-      ∙ ap (λ (k : ℕ). subsumed (take k τ) y) (sym (add-one i))
-
-  pub subsumed_end : (found : Bool) (i : ℕ) → i ≡ length τ → found ≡ subsumed (take i τ) y → found ≡ subsumed τ y
-  subsumed_end found i e so_far =
-      so_far ∙ ap (λ (k : ℕ). subsumed (take k τ) y) e ∙ ap (λ (r : Entries). subsumed r y) (take-length τ)
 
 -- ---- One position of Widen
 
@@ -177,7 +146,7 @@ module _ {l : ℕ} {τ : Entries} {s : Trits} {z i : ℕ} (w : WidenedSoFar l τ
   done e = w.is ∙ ap word (sym e ∙ w.rest)
 
   -- at most one position is fixed
-  pub widened_few : ltb 1 (fixed_count t) ≡ false → z ≡ word (widen τ s)
+  widened_few : ltb 1 (fixed_count t) ≡ false → z ≡ word (widen τ s)
   widened_few m = done (widen_same τ i (l - i) t (λ k a b. few_fixed τ k t m))
 
   -- no position is left
@@ -199,11 +168,11 @@ module _ {l : ℕ} {τ : Entries} {s : Trits} {z i : ℕ} (w : WidenedSoFar l τ
     shifted = ap (λ (x : ℕ). x / 2 ^ i) o ∙ set_word_drop i (open_set τ t)
 
     -- no position is open from i on
-    pub widened_none : r / 2 ^ i ≡ 0 → z ≡ word (widen τ s)
+    widened_none : r / 2 ^ i ≡ 0 → z ≡ word (widen τ s)
     widened_none e = done (none_open τ t wide_t i l (λ m a b. at_later m a ∙ empty_none later (sym shifted ∙ e) (m - i)))
 
     -- its first bit
-    pub first_open : (k : ℕ) → r < 2 ^ k → ¬ (r / 2 ^ i ≡ 0) → First later (count_trailing_zeros k (r / 2 ^ i))
+    first_open : (k : ℕ) → r < 2 ^ k → ¬ (r / 2 ^ i ≡ 0) → First later (count_trailing_zeros k (r / 2 ^ i))
     first_open k b n =
         let small : set_word later < 2 ^ k = subst (λ (x : ℕ). x < 2 ^ k) shifted (omega (arith, shr_le r i)) in
         rw shifted (trailing_first k later small (λ e. n (shifted ∙ e)))
@@ -219,7 +188,7 @@ module _ {l : ℕ} {τ : Entries} {s : Trits} {z i : ℕ} (w : WidenedSoFar l τ
         (both_true (fixed (i + skip) t) (subsumed τ (flipped (i + skip) t)) (sym (open_at τ t (i + skip) wide_t) ∙ open_there)).0
 
     -- an open position is one of the l
-    pub widened_inside : i + skip < l
+    widened_inside : i + skip < l
     widened_inside = let k = fixed_below (i + skip) t fixed_there in omega (arith, w.long)
 
     -- once it is `*`
@@ -231,15 +200,17 @@ module _ {l : ℕ} {τ : Entries} {s : Trits} {z i : ℕ} (w : WidenedSoFar l τ
         ∙ w.rest
 
     -- the first open position from i on becomes `*`
-    pub widened_next : ltb 1 (fixed_count t) ≡ true → (z' : ℕ) → z' ≡ word (starred (i + skip) t)
-        → WidenedSoFar l τ s z' (i + skip + 1)
-    widened_next m z' is = record {
-      now = starred (i + skip) t;
-      long = starred_length (i + skip) t ∙ w.long;
-      over = over_starred (i + skip) t s w.over;
-      is = is;
-      rest = next_rest m;
-    }
+    widened_next : ltb 1 (fixed_count t) ≡ true → (z' : ℕ) → z' ≡ word (starred (i + skip) t)
+        → WidenedSoFar l τ s z' (i + (skip + 1))
+    widened_next m z' is =
+        let e : i + (skip + 1) ≡ i + skip + 1 = omega arith in
+        record {
+          now = starred (i + skip) t;
+          long = starred_length (i + skip) t ∙ w.long;
+          over = over_starred (i + skip) t s w.over;
+          is = is;
+          rest = rw e (next_rest m);
+        }
 
   -- where no other position is open, none is once that one is `*`: what may open only shrinks
   module _ (r : ℕ) (o : r ≡ set_word (open_set τ t)) (skip : ℕ) (f : First later skip) (alone : r / 2 ^ i / 2 ^ skip ≡ 1) where
@@ -270,7 +241,7 @@ module _ {l : ℕ} {τ : Entries} {s : Trits} {z i : ℕ} (w : WidenedSoFar l τ
         (flipped_within m t' t up)) in
         subst T (sym (open_at τ t m wide_t) ∙ none_later m a) k)
 
-    pub widened_last : ltb 1 (fixed_count t) ≡ true → (z' : ℕ) → z' ≡ word (starred (i + skip) t) → z' ≡ word (widen τ s)
+    widened_last : ltb 1 (fixed_count t) ≡ true → (z' : ℕ) → z' ≡ word (starred (i + skip) t) → z' ≡ word (widen τ s)
     widened_last m z' is =
         let t' = starred (i + skip) t in
         let wide' : Wide (length t') τ = rw (starred_length (i + skip) t) wide_t in
@@ -285,7 +256,50 @@ of_over {s = s} ready y t z long over f =
     f y z (rw ready.long ready.held.good.wide) (omega (arith, ready.long, ready.held.short))
     (long ∙ sym ready.long) (true_of (subsumes t s) over)
 
--- the string as it is
-pub of_ready : {l n k y z i : ℕ} {list : List ℕ} {τ : Entries} {s : Trits} {P : Type 0} → Ready l list n k τ s → y ≡ word s
-    → (w : WidenedSoFar l τ s z i) → OfWidened y z τ s w.now P → P
-of_ready ready y w = of_over ready y w.now w.is w.long w.over
+-- ---- A turn
+
+-- r is what the pass says of the string as it is
+module _ {l n k y z i r : ℕ} {list : List ℕ} {τ : Entries} {s : Trits} (ready : Ready l list n k τ s) (is : y ≡ word s)
+    (w : WidenedSoFar l τ s z i) (asked : (t : Trits) → OfWidened y z τ s t (r ≡ set_word (open_set τ t))) where
+  wide_l : Wide l τ
+  wide_l = ready.held.good.wide
+
+  opened : r ≡ set_word (open_set τ w.now)
+  opened = of_over ready is w.now w.is w.long w.over (asked w.now)
+
+  -- nothing is open from i on
+  pub turn_none : r / 2 ^ i ≡ 0 → z ≡ word (widen τ s)
+  turn_none = widened_none w wide_l r opened
+
+  module _ (small : r < 2 ^ 64) (some : ¬ (r / 2 ^ i ≡ 0)) where
+    abbrev skip : ℕ
+    skip = count_trailing_zeros 64 (r / 2 ^ i)
+
+    first : First (drop i (open_set τ w.now)) skip
+    first = first_open w wide_l r opened 64 small some
+
+    pub turn_inside : i + skip < l
+    turn_inside = widened_inside w wide_l skip first
+
+    -- the first open position becomes `*`, where more than one is fixed
+    module _ {f z' : ℕ} (counted : (t : Trits) → length t ≤ 32 → z ≡ word t → f ≡ fixed_count t) (many : 1 < f)
+        (made : (t : Trits) → length t ≤ 32 → z ≡ word t → z' ≡ word (starred (i + skip) t)) where
+      short : length w.now ≤ 32
+      short = omega (arith, w.long, ready.held.short)
+
+      more : ltb 1 (fixed_count w.now) ≡ true
+      more = lt-ltb 1 _ (rw (counted w.now short w.is) at many)
+
+      pub turn_next : WidenedSoFar l τ s z' (i + (skip + 1))
+      turn_next = widened_next w wide_l skip first more z' (made w.now short w.is)
+
+      -- and no other was open
+      pub turn_last : r / 2 ^ i / 2 ^ skip ≡ 1 → z' ≡ word (widen τ s)
+      turn_last alone = widened_last w wide_l r opened skip first alone more z' (made w.now short w.is)
+
+-- at most one position is fixed
+pub turn_few : {l n k z i f : ℕ} {list : List ℕ} {τ : Entries} {s : Trits} → Ready l list n k τ s → WidenedSoFar l τ s z i
+    → ((t : Trits) → length t ≤ 32 → z ≡ word t → f ≡ fixed_count t) → f ≤ 1 → z ≡ word (widen τ s)
+turn_few ready w counted few =
+    widened_few w ready.held.good.wide
+    (le-ltb 1 _ (rw (counted w.now (omega (arith, w.long, ready.held.short)) w.is) at few))

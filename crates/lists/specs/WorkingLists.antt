@@ -1,12 +1,10 @@
 -- Working lists: one array of 256 words and a count; what they hold, and what they are grown to.
-use Rattle.std.specs.Prelude.{◌≡◌, false, List, [], ℕ, ◌≤◌, ◌<◌, length, get_or}
+use Rattle.std.specs.Prelude.{◌≡◌, false, List, [], ℕ, ◌≤◌, ◌<◌, length, get_or, Option as CodeOption, Some, None}
 use Rattle.std.proofs.Math.Option.{Option, some, none}
 use Rattle.model.specs.Strings.{Trits}
 use Rattle.model.specs.Growth.{Entries, limit}
 use Rattle.model.specs.Tables.{Good}
 use Rattle.words.specs.Words.{word, subsumes_word}
-use Rattle.lists.specs.declared.Grown.{Grown}
-use Rattle.lists.specs.declared.Grown.TheVariants.{Count, Full}
 
 -- The array and the count n hold τ, a good list of strings of l positions, which are at most 32; nothing is said of what is
 -- past the count.
@@ -20,6 +18,16 @@ pub record Holds (l : ℕ) (list : List ℕ) (n : ℕ) (τ : Entries) : Type 0 w
 -- P of any list of strings of l positions that the array holds, and any string whose word is y.
 abbrev pub OfString : (l : ℕ) (list : List ℕ) (n : ℕ) → ℕ → (Entries → Trits → Type 0) → Type 0
 OfString l list n y P = (τ : Entries) (s : Trits) → Holds l list n τ → length s ≡ l → y ≡ word s → P τ s
+
+-- The new count of a list, or full: it needs entry 257. In the code that is an `Option<usize>`.
+abbrev pub Grown : Type 0
+Grown = CodeOption ℕ
+
+pattern abbrev pub Count : ℕ → Grown
+Count n = Some n
+
+pattern abbrev pub Full : Grown
+Full = None
 
 -- A count that was answered is within the limit.
 abbrev pub Within : Grown → Type 0

@@ -11,7 +11,6 @@ ghost use Rattle.words.specs.Words.{word, care_of};
 ghost use Rattle.lists.specs.WorkingLists.{Holds, OfString, Within, Makes};
 ghost use Rattle.lists.specs.Filters.{Idle, QuietFrom, slots, Filters, Seen};
 
-use crate::Grown;
 use crate::widening::Standing;
 
 // A filter has so many slots.
@@ -39,16 +38,14 @@ fn unseen(row: &[u64; 256], j: usize, m: usize, seen: &[u64; SIZE]) -> usize
     ensures { (j ≤ result) × (result ≤ m) × Seen row.now seen.now j result }
 {
     let version = seen[VERSION] % words::HALF;
-    let mut i = j;
-    while i < m {
+    for i in j..m {
         let y = row[i];
         let s = slot(y);
         if (seen[s] != y) | (seen[SLOTS + s] % words::HALF != version) {
             return i;
         }
-        i += 1;
     }
-    i
+    m
 }
 
 // Notes y, by which growing the list changes nothing, and the positions that its widening leaves fixed.
@@ -83,12 +80,10 @@ fn quiet(list: &[u64; 256], j: usize, n: usize, y: u64, kept: u64) -> bool
     ensures { (l : ℕ) → OfString l list.now n y (λ τ s.
         (z : Trits) → kept ≡ care_of z → T (subsumes z s) → result ≡ true → QuietFrom τ s z j n) }
 {
-    let mut i = j;
-    while i < n {
+    for i in j..n {
         if words::stirs(list[i], y, kept) {
             return false;
         }
-        i += 1;
     }
     true
 }
@@ -120,7 +115,13 @@ fn renewed(list: &[u64; 256], n: usize, y: u64, seen: &mut [u64; SIZE]) -> bool
 }
 
 // Grows the list by y, which is not all zero, and notes it: once the list is grown by it, it changes nothing.
-fn grow_widened(list: &mut [u64; 256], n: usize, l: u32, y: u64, seen: &mut [u64; SIZE]) -> Grown
+fn grow_widened(
+    list: &mut [u64; 256],
+    n: usize,
+    l: u32,
+    y: u64,
+    seen: &mut [u64; SIZE],
+) -> Option<usize>
     requires { (n ≤ 256) × (l ≤ 32) }
     ensures within { Within result }
     ensures made { OfString l list.old n y (λ τ s.
@@ -134,7 +135,7 @@ fn grow_widened(list: &mut [u64; 256], n: usize, l: u32, y: u64, seen: &mut [u64
     let kept = words::fixed(z);
     if crate::widening::covered(list, n, k, y, z) {
         note(seen, y, kept);
-        return Grown::Count(n);
+        return Some(n);
     }
     next_version(l, seen);
     note(seen, y, kept);
@@ -142,7 +143,13 @@ fn grow_widened(list: &mut [u64; 256], n: usize, l: u32, y: u64, seen: &mut [u64
 }
 
 // The same by a survey of the list, where that is enough.
-fn grow_surveyed(list: &mut [u64; 256], n: usize, l: u32, y: u64, seen: &mut [u64; SIZE]) -> Grown
+fn grow_surveyed(
+    list: &mut [u64; 256],
+    n: usize,
+    l: u32,
+    y: u64,
+    seen: &mut [u64; SIZE],
+) -> Option<usize>
     requires { (n ≤ 256) × (l ≤ 32) }
     ensures within { Within result }
     ensures made { OfString l list.old n y (λ τ s.
@@ -152,7 +159,7 @@ fn grow_surveyed(list: &mut [u64; 256], n: usize, l: u32, y: u64, seen: &mut [u6
         → Filters l seen.new κ) }
 {
     match crate::widening::survey(list, n, y) {
-        Standing::Absorbed => Grown::Count(n),
+        Standing::Absorbed => Some(n),
         Standing::Stays => {
             next_version(l, seen);
             note(seen, y, words::fixed(y));
@@ -164,7 +171,13 @@ fn grow_surveyed(list: &mut [u64; 256], n: usize, l: u32, y: u64, seen: &mut [u6
 
 // Grows the list by y, a string of l positions, and notes it. A string without `*` is widened at once: a survey says of few of
 // these that it is enough.
-fn grow_noted(list: &mut [u64; 256], n: usize, l: u32, y: u64, seen: &mut [u64; SIZE]) -> Grown
+fn grow_noted(
+    list: &mut [u64; 256],
+    n: usize,
+    l: u32,
+    y: u64,
+    seen: &mut [u64; SIZE],
+) -> Option<usize>
     requires { (n ≤ 256) × (l ≤ 32) }
     ensures within { Within result }
     ensures made { OfString l list.old n y (λ τ s.
@@ -173,10 +186,10 @@ fn grow_noted(list: &mut [u64; 256], n: usize, l: u32, y: u64, seen: &mut [u64; 
         (κ : Entries) → Filters l seen.old τ → grow_list τ s ≡ some κ → Filters l seen.new κ) }
 {
     if words::is_zero(l, y) {
-        return Grown::Count(n);
+        return Some(n);
     }
     if renewed(list, n, y, seen) {
-        return Grown::Count(n);
+        return Some(n);
     }
     if words::starless(l, y) {
         return grow_widened(list, n, l, y, seen);
@@ -193,7 +206,7 @@ pub fn grow_unseen(
     row: &[u64; 256],
     m: usize,
     seen: &mut [u64; SIZE],
-) -> Grown
+) -> Option<usize>
     requires { (n ≤ 256) × (l ≤ 32) × (m ≤ 256) }
     ensures within { Within result }
     ensures made { (τ ρ : Entries) → Holds l list.old n τ → Holds l row.now m ρ
@@ -203,16 +216,10 @@ pub fn grow_unseen(
 {
     let mut k = n;
     let mut j = unseen(row, 0, m, seen);
+    // A `while`: the index jumps to the next string that does not stand in its slot.
     while j < m {
-        match grow_noted(list, k, l, row[j], seen) {
-            Grown::Count(c) => {
-                k = c;
-            }
-            Grown::Full => {
-                return Grown::Full;
-            }
-        }
+        k = grow_noted(list, k, l, row[j], seen)?;
         j = unseen(row, j + 1, m, seen);
     }
-    Grown::Count(k)
+    Some(k)
 }

@@ -6,10 +6,3 @@ pub mod growth; // growing a list by one string or by each of a row
 pub mod widening; // what a string is widened to before a list is grown by it
 pub mod filter; // growing by a row, with strings that are known to change nothing kept at hand
 pub mod values; // from a table value and back
-
-// The new count of a list, or that it needs entry 257.
-#[derive(Clone, Copy)]
-pub enum Grown {
-    Count(usize),
-    Full,
-}

@@ -9,14 +9,12 @@ ghost use Rattle.tables.specs.declared.Answered.{Answered as AnsweredTable};
 ghost use Rattle.lists.specs.WorkingLists.{Holds, Within, Makes};
 ghost use Rattle.lists.specs.Comings.{Bounded, Comes};
 
-use crate::Grown;
-use tables::{Answer, Answered, Refusal, Table};
+use tables::{Answered, Refusal, Table};
 use words::Entry;
 
-// What comes of a call that is lent the list to make: a refusal, the table as it was given, or so many entries of that list.
+// What an accepted call that is lent the list to make comes to: the table as it was given, or so many entries of that list.
 #[derive(Clone, Copy)]
 pub enum Came {
-    Refused(Refusal),
     Same,
     Count(usize),
 }
@@ -27,15 +25,11 @@ pub fn load<'a>(care: &'a [u32; 256], value: &'a [u32; 256], n: usize, list: &mu
     ensures { (l : ℕ) (τ : Entries) → l ≤ 32 → Stores l care.now value.now n τ
         → Holds l list.new n τ }
 {
-    // As a slice its length is known.
-    let whole: &[u64] = &*list;
-    let mut i = 0;
-    while i < n {
+    for i in 0..n {
         list[i] = words::word_of(Entry {
             care: care[i],
             value: value[i],
         });
-        i += 1;
     }
 }
 
@@ -46,12 +40,10 @@ pub fn table(l: u32, n: usize, list: &[u64; 256]) -> Table
 {
     let mut care = [0u32; 256];
     let mut value = [0u32; 256];
-    let mut i = 0;
-    while i < n {
+    for i in 0..n {
         let e = words::entry_of(list[i]);
         care[i] = e.care;
         value[i] = e.value;
-        i += 1;
     }
     Table {
         l: l,
@@ -62,41 +54,41 @@ pub fn table(l: u32, n: usize, list: &[u64; 256]) -> Table
 }
 
 // What came of a call on the table t, or where none was given on the table all zero, as an answer with its table.
-pub fn answered(l: u32, t: Table, came: Came, list: &[u64; 256]) -> Answered
+pub fn answered(l: u32, t: Table, came: Result<Came, Refusal>, list: &[u64; 256]) -> Answered
     requires { Bounded came }
     ensures { (a : AnsweredTable) → Comes l t list.now came a → result ≡ a }
 {
     match came {
-        Came::Refused(r) => Answered {
-            answer: Answer::Refused(r),
+        Err(r) => Answered {
+            answer: Err(r),
             table: t,
         },
-        Came::Same => Answered {
-            answer: Answer::Accepted,
+        Ok(Came::Same) => Answered {
+            answer: Ok(()),
             table: t,
         },
-        Came::Count(n) => Answered {
-            answer: Answer::Accepted,
+        Ok(Came::Count(n)) => Answered {
+            answer: Ok(()),
             table: table(l, n, list),
         },
     }
 }
 
 // What came of a list that was to be made: its count, or 8.
-pub fn came_of(g: Grown) -> Came
+pub fn came_of(g: Option<usize>) -> Result<Came, Refusal>
     requires { Within g }
     ensures bounded { Bounded result }
     ensures comes { (l : ℕ) (t : TableValue) (list : List ℕ) (o : Option Entries) → Makes l list g o
         → Comes l t list result (made_or_full l t o) }
 {
     match g {
-        Grown::Count(n) => Came::Count(n),
-        Grown::Full => Came::Refused(Refusal::Full),
+        Some(n) => Ok(Came::Count(n)),
+        None => Err(Refusal::Full),
     }
 }
 
 // The table of a working list of strings of l positions; 8 where there is none, with the table that is then returned.
-pub fn made_or_full(l: u32, t: Table, g: Grown, list: &[u64; 256]) -> Answered
+pub fn made_or_full(l: u32, t: Table, g: Option<usize>, list: &[u64; 256]) -> Answered
     requires { Within g }
     ensures { (o : Option Entries) → Makes l list.now g o → result ≡ made_or_full l t o }
 {

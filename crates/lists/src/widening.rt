@@ -20,14 +20,12 @@ fn gather(list: &mut [u64; 256], n: usize, y: u64) -> usize
         Holds l list.new n τ × Gathered word list.new result (near_list τ s)) }
 {
     let mut k = 0;
-    let mut i = 0;
-    while i < n {
+    for i in 0..n {
         let e = list[i];
         list[UPPER + k] = e;
         if words::near(e, y) {
             k += 1;
         }
-        i += 1;
     }
     k
 }
@@ -39,12 +37,8 @@ fn shade_each(list: &mut [u64; 256], k: usize, y: u64)
         → Gathered word list.old k ν → y ≡ word s
         → Holds l list.new n τ × Shaded s list.new k ν }
 {
-    let mut i = 0;
-    while i < k {
-        let at = UPPER + i;
-        let e = list[at];
-        list[at] = words::shade(e, y);
-        i += 1;
+    for shade in &mut list[UPPER..UPPER + k] {
+        *shade = words::shade(*shade, y);
     }
 }
 
@@ -69,10 +63,8 @@ fn shade_set(list: &[u64; 256], k: usize, y: u64, z: u64) -> u64
         → OfWidened y z τ s t (result ≡ set_word (open_set_of (near_list τ s) t)) }
 {
     let mut found = 0u64;
-    let mut i = 0;
-    while i < k {
-        found = found | words::shade_openings(list[UPPER + i], y, z);
-        i += 1;
+    for &shade in &list[UPPER..UPPER + k] {
+        found |= words::shade_openings(shade, y, z);
     }
     found
 }
@@ -83,10 +75,8 @@ fn entry_set(list: &[u64; 256], n: usize, z: u64) -> u64
     ensures { (l : ℕ) → OfString l list.now n z (λ τ t. result ≡ set_word (open_set_of τ t)) }
 {
     let mut found = 0u64;
-    let mut i = 0;
-    while i < n {
-        found = found | words::openings(list[i], z);
-        i += 1;
+    for &e in &list[..n] {
+        found |= words::openings(e, z);
     }
     found
 }
@@ -112,6 +102,7 @@ pub fn widen(list: &[u64; 256], n: usize, k: usize, l: u32, y: u64) -> u64
 {
     let mut z = y;
     let mut i = 0u32;
+    // A `while`: the index jumps behind the position that was found.
     while i < l {
         if words::fixed_count(z) <= 1 {
             return z;
@@ -128,7 +119,7 @@ pub fn widen(list: &[u64; 256], n: usize, k: usize, l: u32, y: u64) -> u64
         if (open >> skip) == 1 {
             return z;
         }
-        i = i + skip + 1;
+        i += skip + 1;
     }
     z
 }
@@ -140,10 +131,8 @@ fn shades_subsume(list: &[u64; 256], k: usize, y: u64, z: u64) -> bool
         → OfWidened y z τ s t (result ≡ subsumed_list (near_list τ s) t) }
 {
     let mut found = false;
-    let mut i = 0;
-    while i < k {
-        found = found | words::shade_subsumes(list[UPPER + i], y, z);
-        i += 1;
+    for &shade in &list[UPPER..UPPER + k] {
+        found |= words::shade_subsumes(shade, y, z);
     }
     found
 }
@@ -191,13 +180,10 @@ fn scan(list: &[u64; 256], n: usize, y: u64) -> Sums
     let mut lacks = 0u64;
     let mut over = 0u64;
     let mut found = false;
-    let mut i = 0;
-    while i < n {
-        let e = list[i];
-        lacks = lacks | words::lone_lack(e, y);
-        over = over | words::if_over(e, y);
-        found = found | words::subsumes(e, y);
-        i += 1;
+    for &e in &list[..n] {
+        lacks |= words::lone_lack(e, y);
+        over |= words::if_over(e, y);
+        found |= words::subsumes(e, y);
     }
     Sums {
         lacks: lacks,

@@ -7,8 +7,8 @@ use Rattle.model.specs.Growth.{◌>>=◌, fold, Entries}
 use Rattle.model.specs.Tables.{Side}
 use Rattle.model.specs.Equations.{Equation, equation}
 use Rattle.model.specs.Unification.{next_equation, walk_entries}
-use Rattle.lists.specs.declared.Grown.{Grown}
-use Rattle.lists.specs.declared.Grown.TheVariants.{Count, Full}
+use Rattle.lists.specs.WorkingLists.{Grown}
+use Rattle.lists.specs.WorkingLists.{Count, Full}
 use Rattle.lists.specs.WorkingLists.{Holds, Makes, makes, stops}
 use Rattle.lists.proofs.Holding.{makes_count, makes_full}
 use Rattle.terms.specs.declared.Equation as E

@@ -15,13 +15,13 @@ use Rattle.words.specs.Words.{set_word}
 use Rattle.tables.specs.declared.Table.{Table}
 use Rattle.tables.specs.declared.Refusal.{Refusal}
 use Rattle.tables.specs.declared.Refusal.TheVariants as R
-use Rattle.tables.specs.declared.Answer.TheVariants as N
+use Rattle.tables.specs.Refusals as N
 use Rattle.lists.specs.WorkingLists.{Holds}
 use Rattle.tables.specs.Lists.{Stores}
 use Rattle.tables.specs.Values.{GoodTable, entries_of}
 use Rattle.tables.proofs.Checking.{good_holds, width_most}
 use Rattle.tables.proofs.Tests.{both_true, below_full}
-use Rattle.terms.specs.declared.Checked.TheVariants.{Variables}
+use Rattle.terms.specs.Checks.{Variables}
 use Rattle.terms.specs.Checks as C
 use Rattle.terms.specs.EquationKinds.{Counted}
 use Rattle.terms.specs.Checks.{check_equation, check_term, checked, check_answer}

@@ -12,7 +12,7 @@ use Rattle.model.specs.Walk.{Sides}
 use Rattle.tables.specs.declared.Table.{Table}
 use Rattle.tables.specs.declared.Refusal.{Refusal}
 use Rattle.tables.specs.declared.Refusal.TheVariants as R
-use Rattle.tables.specs.declared.Answer.TheVariants.{Refused}
+use Rattle.tables.specs.Refusals.{Refused}
 use Rattle.tables.specs.declared.Answered.{Answered}
 use Rattle.tables.specs.Refusals.{member, one_of}
 use Rattle.tables.specs.Values.{good_width, check_table, GoodTable}

@@ -1,6 +1,6 @@
 -- The operations on table values (01, "Refusals"): the table's own 2, 3, 4, of two tables the first's first; then the
 -- equation's checks, 10 or 11; then 8. A refusal returns the table as given, of two the first, and one all zero where none came in.
-use Rattle.std.specs.Prelude.{◌≡◌, Bool, ◌&&◌, cond, List, map, ℕ, ◌^◌, ltb, eqb}
+use Rattle.std.specs.Prelude.{◌≡◌, Bool, ◌&&◌, cond, List, map, ℕ, ◌^◌, ltb, eqb, Result, Ok, Err}
 use Rattle.std.proofs.Math.Option.{some}
 use Rattle.model.specs.Growth.{convert, Entries}
 use Rattle.model.specs.Terms.{Term}
@@ -10,20 +10,20 @@ use Rattle.model.specs.Equations.{Equation, equation}
 use Rattle.model.specs.Unification.{unification}
 use Rattle.words.specs.Words.{set}
 use Rattle.tables.specs.declared.Table.{Table}
+use Rattle.tables.specs.declared.Refusal.{Refusal}
 use Rattle.tables.specs.declared.Refusal.TheVariants as R
 use Rattle.tables.specs.declared.Answered.{Answered}
 use Rattle.tables.specs.Refusals.{if_accepted}
 use Rattle.tables.specs.Values.{good_width, zero_table, entries_of, refuses, made_or_full, check_table}
-use Rattle.lists.specs.declared.values.Came.{Came}
+use Rattle.lists.specs.Comings.{Coming}
 use Rattle.lists.specs.WorkingLists.{Holds}
 use Rattle.lists.specs.Comings.{Comes}
 use Rattle.conversion.specs.Conversion.{all_below}
+use Rattle.terms.specs.declared.Equation as E
 use Rattle.terms.specs.Checks as C
 use Rattle.terms.specs.Checks.{check_equation, check_sides, if_read, reads, Written, one_term, two_terms}
 use Rattle.terms.specs.EquationKinds.{Told}
 use Rattle.walks.specs.Cursors.{Rest}
-use Rattle.operations.specs.declared.Given.{Given}
-use Rattle.operations.specs.declared.Given.TheVariants as G
 use Rattle.operations.specs.declared.Side.{Side}
 use Rattle.operations.specs.declared.Side.TheVariants.{Positive, Negative}
 
@@ -37,7 +37,7 @@ unfoldable pub side_numbered : ℕ → M.Side
 side_numbered n = cond (eqb n 0) positive negative
 
 -- What came of a call on the table value t, in the list that it was lent, is the answer of that call.
-abbrev pub CameOf : Table → List ℕ → Came → (Table → Answered) → Type 0
+abbrev pub CameOf : Table → List ℕ → Coming → (Table → Answered) → Type 0
 CameOf t list came call = Comes t.l t list came (call t)
 
 -- Convert groups, given as l and a row of words: 2, then 4 for a bit above l, then 8.
@@ -47,11 +47,15 @@ convert_call l ws =
     (cond (all_below l ws) (made_or_full l zero_table (convert (map (set l) ws))) (refuses R.Stray zero_table))
     (refuses R.Width zero_table)
 
+-- An equation that was handed over, as the procedures need it, or the refusal of its checks.
+abbrev pub Given : Type 0
+Given = Result E.Equation Refusal
+
 -- What the checks of Xx = the term of the tokens ts come to in code: a term was read, and the value tells that equation; or they
 -- refuse.
 abbrev pub GivenAs : ℕ → ℕ → List ℕ → Given → Type 0
-GivenAs l x ts (G.Equation q) = (u : Term) × (check_equation l x ts ≡ reads u) × Told l q (record { left = x; right = u })
-GivenAs l x ts (G.Refused r) = check_equation l x ts ≡ C.refuses r
+GivenAs l x ts (Ok q) = (u : Term) × (check_equation l x ts ≡ reads u) × Told l q (record { left = x; right = u })
+GivenAs l x ts (Err r) = check_equation l x ts ≡ C.refuses r
 
 -- The equation Xx = the term of the tokens ts: 2, 3, 4; 7; 5 of x; 5 of the tokens; 6; 8.
 unfoldable pub equation_call : M.Side → Table → ℕ → List ℕ → Answered

@@ -21,14 +21,13 @@ ghost use Rattle.walks.specs.Cursors.{Rest};
 ghost use Rattle.operations.specs.Operations.{side_of, side_numbered, convert_call, equation_call, unify_call, join_call};
 ghost use Rattle.operations.specs.Operations.{projection_call, change_side_call, GivenAs, CameOf, Starts};
 
-use lists::Grown;
 use lists::values::Came;
-use tables::{Answer, Answered, Refusal, Table};
-use terms::{Checked, Equation, Kind};
+use tables::{Answered, Refusal, Table};
+use terms::{Equation, Kind};
 use walks::Found;
 
 // A table is positive or negative.
-#[derive(Clone, Copy)]
+#[derive(Clone, Copy, Debug, PartialEq, Eq)]
 pub enum Side {
     Positive,
     Negative,
@@ -49,7 +48,7 @@ pub fn refused(r: Refusal, t: Table) -> Answered
     ensures { result ≡ refuses r t }
 {
     Answered {
-        answer: Answer::Refused(r),
+        answer: Err(r),
         table: t,
     }
 }
@@ -72,15 +71,15 @@ fn no_groups_list(side: Side, list: &mut [u64; 256]) -> usize
 }
 
 // Converts groups, given as l and a row of words, bit i - 1 for Xi, to a list. Inner: not a public call.
-pub fn convert_list(l: u32, words: &[u32], list: &mut [u64; 256]) -> Came
+pub fn convert_list(l: u32, words: &[u32], list: &mut [u64; 256]) -> Result<Came, Refusal>
     ensures bounded { Bounded result }
     ensures comes { Comes l zero_table list.new result (convert_call l words.now) }
 {
     if !tables::good_width(l) {
-        return Came::Refused(Refusal::Width);
+        return Err(Refusal::Width);
     }
     if !conversion::all_below(l, words) {
-        return Came::Refused(Refusal::Stray);
+        return Err(Refusal::Stray);
     }
     lists::values::came_of(conversion::convert(list, l, words))
 }
@@ -103,7 +102,7 @@ fn equation_list(
     mx: u32,
     mt: u32,
     list: &mut [u64; 256],
-) -> Grown
+) -> Option<usize>
     requires { (tn ≤ limit) × (l ≤ 32) }
     ensures within { Within result }
     ensures made { OfSets l t.entry.now tn mx mt (λ τ x t.
@@ -125,7 +124,7 @@ fn equation_read<'a>(
     value: &'a [u32; 256],
     e: Equation,
     list: &mut [u64; 256],
-) -> Came
+) -> Result<Came, Refusal>
     requires { GoodTable (parts l n care.now value.now) }
     ensures bounded { Bounded result }
     ensures comes { (q : M.Equation) → Told l e q
@@ -134,8 +133,8 @@ fn equation_read<'a>(
 {
     let kind = e.kind;
     match kind {
-        Kind::Itself => Came::Same,
-        Kind::Deeper => Came::Count(no_groups_list(side, list)),
+        Kind::Itself => Ok(Came::Same),
+        Kind::Deeper => Ok(Came::Count(no_groups_list(side, list))),
         Kind::Plain => {
             let mut given = [0u64; 256];
             lists::values::load(care, value, n, &mut given);
@@ -144,24 +143,14 @@ fn equation_read<'a>(
     }
 }
 
-// An equation that was handed over: as the procedures need it, or the refusal of its checks.
-#[derive(Clone, Copy)]
-pub enum Given {
-    Equation(Equation),
-    Refused(Refusal),
-}
-
-// Reads the equation Xx = the term of the tokens. Inner: not a public call.
-pub fn read_equation(l: u32, x: u32, ts: &[u16]) -> Given
+// Reads the equation Xx = the term of the tokens: as the procedures need it, or the refusal of its checks. Inner: not a
+// public call.
+pub fn read_equation(l: u32, x: u32, ts: &[u16]) -> Result<Equation, Refusal>
     requires { l ≤ 32 }
     ensures { GivenAs l x ts.now result }
 {
-    match terms::check_equation(l, x, ts) {
-        Checked::Refused(r) => Given::Refused(r),
-        Checked::Variables(m) => {
-            Given::Equation(terms::equation_of(1u32 << (x - 1), m, ts.len()))
-        }
-    }
+    let m = terms::check_equation(l, x, ts)?;
+    Ok(terms::equation_of(1u32 << (x - 1), m, ts.len()))
 }
 
 // The equation Xx = the term of the tokens, on the parts of a checked table, with the list to make lent. Inner: not a public
@@ -175,16 +164,14 @@ pub fn equation_parts<'a>(
     x: u32,
     ts: &[u16],
     list: &mut [u64; 256],
-) -> Came
+) -> Result<Came, Refusal>
     requires { GoodTable (parts l n care.now value.now) }
     ensures bounded { Bounded result }
     ensures comes { CameOf (parts l n care.now value.now) list.new result (λ t.
         equation_call (side_of side) t x ts.now) }
 {
-    match read_equation(l, x, ts) {
-        Given::Refused(r) => Came::Refused(r),
-        Given::Equation(e) => equation_read(side, l, n, care, value, e, list),
-    }
+    let e = read_equation(l, x, ts)?;
+    equation_read(side, l, n, care, value, e, list)
 }
 
 // The same on a checked table.
@@ -202,13 +189,13 @@ pub fn equation(side: Side, t: Table, x: u32, ts: &[u16]) -> Answered
     ensures { result ≡ equation_call (side_of side) t x ts.now }
 {
     match tables::check(t) {
-        Answer::Refused(r) => refused(r, t),
-        Answer::Accepted => equation_checked(side, t, x, ts),
+        Err(r) => refused(r, t),
+        Ok(()) => equation_checked(side, t, x, ts),
     }
 }
 
 // A found equation on a working list, in place.
-fn equate(side: Side, e: Equation, list: &mut [u64; 256], n: usize, l: u32) -> Grown
+fn equate(side: Side, e: Equation, list: &mut [u64; 256], n: usize, l: u32) -> Option<usize>
     requires { (n ≤ limit) × (l ≤ 32) }
     ensures within { Within result }
     ensures made { (τ : Entries) (q : M.Equation) → Holds l list.old n τ → Told l e q
@@ -216,8 +203,8 @@ fn equate(side: Side, e: Equation, list: &mut [u64; 256], n: usize, l: u32) -> G
 {
     let kind = e.kind;
     match kind {
-        Kind::Itself => Grown::Count(n),
-        Kind::Deeper => Grown::Count(no_groups_list(side, list)),
+        Kind::Itself => Some(n),
+        Kind::Deeper => Some(no_groups_list(side, list)),
         Kind::Plain => {
             let mut given = *list;
             equation_list(side, &mut given, n, l, e.left, e.right, list)
@@ -233,7 +220,7 @@ fn apply_found(
     l: u32,
     left: &[u16],
     right: &[u16],
-) -> Grown
+) -> Option<usize>
     requires { (n ≤ limit) × (l ≤ 32)
         × ((p : Entries × List M.Equation) × Starts l list.old n left.now right.now p) }
     ensures within { Within result }
@@ -245,17 +232,14 @@ fn apply_found(
     let mut at_right = 0;
     loop {
         match walks::next(left, at_left, right, at_right) {
-            Found::Equation { found: e, i, j } => match equate(side, e, list, count, l) {
-                Grown::Full => return Grown::Full,
-                Grown::Count(k) => {
-                    count = k;
-                    at_left = i;
-                    at_right = j;
-                }
-            },
+            Found::Equation { found: e, i, j } => {
+                count = equate(side, e, list, count, l)?;
+                at_left = i;
+                at_right = j;
+            }
             // It does not clash.
-            Found::Clash => return Grown::Full,
-            Found::End => return Grown::Count(count),
+            Found::Clash => return None,
+            Found::End => return Some(count),
         }
     }
 }
@@ -271,7 +255,7 @@ fn unify_read<'a>(
     left: &[u16],
     right: &[u16],
     list: &mut [u64; 256],
-) -> Came
+) -> Result<Came, Refusal>
     requires { GoodTable (parts l n care.now value.now) × ((o : Walked) × Rest l left.now right.now 0 0 o) }
     ensures bounded { Bounded result }
     ensures comes { (o : Walked) → Rest l left.now right.now 0 0 o
@@ -279,7 +263,7 @@ fn unify_read<'a>(
         made_or_full t.l t (walk_entries (side_of side) t.l o (entries_of t))) }
 {
     if walks::clashes(left, right) {
-        return Came::Count(no_groups_list(side, list));
+        return Ok(Came::Count(no_groups_list(side, list)));
     }
     lists::values::load(care, value, n, list);
     lists::values::came_of(apply_found(side, list, n, l, left, right))
@@ -296,16 +280,14 @@ pub fn unify_parts<'a>(
     left: &[u16],
     right: &[u16],
     list: &mut [u64; 256],
-) -> Came
+) -> Result<Came, Refusal>
     requires { GoodTable (parts l n care.now value.now) }
     ensures bounded { Bounded result }
     ensures comes { CameOf (parts l n care.now value.now) list.new result (λ t.
         unify_call (side_of side) t left.now right.now) }
 {
-    match terms::check_sides(l, left, right) {
-        Answer::Refused(r) => Came::Refused(r),
-        Answer::Accepted => unify_read(side, l, n, care, value, left, right, list),
-    }
+    terms::check_sides(l, left, right)?;
+    unify_read(side, l, n, care, value, left, right, list)
 }
 
 // The same on a checked table.
@@ -323,8 +305,8 @@ pub fn unify(side: Side, t: Table, left: &[u16], right: &[u16]) -> Answered
     ensures { result ≡ unify_call (side_of side) t left.now right.now }
 {
     match tables::check(t) {
-        Answer::Refused(r) => refused(r, t),
-        Answer::Accepted => unify_checked(side, t, left, right),
+        Err(r) => refused(r, t),
+        Ok(()) => unify_checked(side, t, left, right),
     }
 }
 
@@ -337,7 +319,7 @@ fn join_list(
     bn: usize,
     l: u32,
     list: &mut [u64; 256],
-) -> Grown
+) -> Option<usize>
     requires { (an ≤ limit) × (bn ≤ limit) × (l ≤ 32) }
     ensures within { Within result }
     ensures made { (α β : Entries) → Holds l a.now an α → Holds l b.now bn β
@@ -371,10 +353,10 @@ pub fn join(side: Side, t: Table, u: Table) -> Answered
     ensures { result ≡ join_call (side_of side) t u }
 {
     match tables::check(t) {
-        Answer::Refused(r) => refused(r, t),
-        Answer::Accepted => match tables::check(u) {
-            Answer::Refused(r) => refused(r, t),
-            Answer::Accepted => {
+        Err(r) => refused(r, t),
+        Ok(()) => match tables::check(u) {
+            Err(r) => refused(r, t),
+            Ok(()) => {
                 if t.l == u.l {
                     join_checked(side, t, u)
                 } else {
@@ -393,7 +375,7 @@ fn projection_list(
     l: u32,
     keep: u32,
     list: &mut [u64; 256],
-) -> Grown
+) -> Option<usize>
     requires { (tn ≤ limit) × (l ≤ 32) }
     ensures within { Within result }
     ensures made { (k : Bits) (τ : Entries) → Holds l t.now tn τ → length k ≡ l → keep ≡ set_word k
@@ -410,8 +392,8 @@ pub fn project(side: Side, t: Table, keep: u32) -> Answered
     ensures { result ≡ projection_call (side_of side) t keep }
 {
     match tables::check(t) {
-        Answer::Refused(r) => refused(r, t),
-        Answer::Accepted => {
+        Err(r) => refused(r, t),
+        Ok(()) => {
             let l = t.l;
             if !((0 < keep) & (keep <= words::full(l))) {
                 return refused(Refusal::Keep, t);
@@ -431,8 +413,8 @@ pub fn change_side(side: Side, t: Table) -> Answered
     ensures { result ≡ change_side_call (side_of side) t }
 {
     match tables::check(t) {
-        Answer::Refused(r) => refused(r, t),
-        Answer::Accepted => {
+        Err(r) => refused(r, t),
+        Ok(()) => {
             let l = t.l;
             let n = t.n;
             let mut given = [0u64; 256];

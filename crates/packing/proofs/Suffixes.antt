@@ -1,5 +1,5 @@
 -- A row read from its last byte down: what is known of the bytes from i on is known with the byte before them. Assumes nothing.
-use mathlib.Core.Path.{◌≡◌, refl}
+use mathlib.Core.Path.{◌≡◌, refl, ◌∙◌}
 use mathlib.Core.Bool.{Bool, true, false, cond, and-false}
 use mathlib.Core.List.{List, [], ◌∷◌}
 use Prim.Native.Nat.{ℕ, zero, suc, ◌+◌, ◌-◌, ◌*◌, ◌/◌, ◌%◌, ◌^◌, ◌<◌, ◌≤◌}
@@ -9,6 +9,9 @@ use lib.Dec.{ltb}
 use lib.ListN.{length, get_or, drop, length-drop}
 use lib.Pow.{pow_mono}
 use lib.Seq.{drop-cons}
+use Rattle.std.specs.Prelude.{reverse}
+use Rattle.std.proofs.lemmas.Grind.{get_or_default_zero}
+use Rattle.std.proofs.lemmas.List.{get_or-reverse, length-reverse}
 use Rattle.model.specs.Strings.{Trits}
 use Rattle.words.specs.Words.{care_of, value_of}
 use Rattle.words.proofs.Codec.{care_lt, value_lt}
@@ -58,6 +61,14 @@ pub record Taken (row : List ℕ) (i p : ℕ) : Type 0 where
 drop_before : (row : List ℕ) (i : ℕ) → 0 < i → i ≤ length row → drop (i - 1) row ≡ get_or row (i - 1) 0 ∷ drop i row
 drop_before row zero h k = absurd (not-suc-le-zero h)
 drop_before row (suc i) h k = let e : suc i - 1 ≡ i = omega arith in rw e (drop-cons row i 0 k)
+
+-- The byte that is read after n, from the last one down.
+pub read_down : (row : List ℕ) (n b : ℕ) → (n < length (reverse row)) × (b ≡ get_or (reverse row) n b)
+    → (0 < length row - n) × (b ≡ get_or row (length row - n - 1) 0)
+read_down row n b t =
+    let h : n < length row = omega (arith, length-reverse row, t.0) in
+    let e : length row - 1 - n ≡ length row - n - 1 = omega arith in
+    (omega arith, t.1 ∙ get_or-reverse row n b h ∙ rw e (get_or_default_zero row (length row - n - 1) b (omega arith)))
 
 -- A row with a byte of 243 or more in it is not packed.
 suffix_bad : (i : ℕ) (row : List ℕ) → all_packed (drop i row) ≡ false → all_packed row ≡ false

@@ -1,8 +1,8 @@
 -- Five positions to a byte (02, request 1).
-use Rattle.std.specs.Prelude.{◌≡◌, Bool, true, false, ◌&&◌, cond, List, [], ◌∷◌, ◌++◌, ℕ, zero, suc, ◌+◌, ◌*◌, ◌/◌, ◌%◌, ◌<◌, ltb, length, get_or, take, drop}
+use Rattle.std.specs.Prelude.{◌≡◌, Bool, true, ◌&&◌, cond, List, [], ◌∷◌, ◌++◌, ℕ, zero, suc, ◌+◌, ◌*◌, ◌/◌, ◌%◌, ◌<◌, ltb, length, get_or, take, drop, Option, Some, None}
 use Rattle.model.specs.Strings.{Trit, t0, t1, t*, Trits, all_zero}
 use Rattle.words.specs.Words.{care_of, value_of, entry}
-use Rattle.packing.specs.declared.Unpacked.{Unpacked}
+use Rattle.words.specs.declared.Entry.{Entry}
 
 -- ---- Packing
 
@@ -61,11 +61,9 @@ all_packed (b ∷ row) = ltb b 243 && all_packed row
 unfoldable pub good_row : ℕ → List ℕ → Bool
 good_row l row = all_packed row && all_zero (drop l (row_positions row))
 
--- What unpacking a row answers: is it good, and the words of its entry; of one that is not, words of 0.
-unfoldable pub unpacked_row : ℕ → List ℕ → Unpacked
-unpacked_row l row =
-    cond (good_row l row) (record { good = true; entry = entry (unpacked l row) })
-    (record { good = false; entry = record { care = 0; value = 0 } })
+-- What unpacking a row answers: its entry, where the row is good.
+unfoldable pub unpacked_row : ℕ → List ℕ → Option Entry
+unpacked_row l row = cond (good_row l row) (Some (entry (unpacked l row))) None
 
 -- ---- The tables of the code
 

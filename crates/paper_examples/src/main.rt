@@ -15,9 +15,8 @@
 ghost use Rattle.std.specs.Prelude.{◌≡◌, ◌+◌, ◌≤◌, ◌<◌, length};
 
 use operations::Side;
-use questions::Reply;
 use std::io;
-use tables::{Answer, Answered, Refusal, Table};
+use tables::{Answered, Refusal, Table};
 use words::Entry;
 
 // ---- Sets of strings, read from text as the paper prints them
@@ -44,10 +43,7 @@ fn read_string(text: &[u8], at: usize, l: u32) -> Entry
 {
     let mut care = 0u32;
     let mut value = 0u32;
-    let mut i = l as usize;
-    while 0 < i {
-        i -= 1;
-        let b = text[at + i];
+    for &b in text[at..at + l as usize].iter().rev() {
         care = (care << 1) | care_bit(b);
         value = (value << 1) | value_bit(b);
     }
@@ -66,12 +62,10 @@ fn read_table(l: u32, text: &[u8]) -> Table
     let n = (text.len() + 2) / step;
     let mut care = [0u32; 256];
     let mut value = [0u32; 256];
-    let mut i = 0;
-    while i < n {
+    for i in 0..n {
         let e = read_string(text, i * step, l);
         care[i] = e.care;
         value[i] = e.value;
-        i += 1;
     }
     Table {
         l: l,
@@ -94,30 +88,22 @@ fn converted(l: u32, text: &[u8]) -> Answered
 // ---- The groups of a table
 
 // Does an entry of the table cover the group g? It does exactly where the positive join with g alone changes no group.
-fn covers(t: Table, g: u32) -> Reply {
+fn covers(t: Table, g: u32) -> Result<bool, Refusal> {
     let l = t.l;
     let one = operations::convert(l, &[g]);
     let alone = one.table;
     let both = operations::join(Side::Positive, t, alone);
-    let answer = both.answer;
-    let joined = both.table;
-    match answer {
-        Answer::Refused(r) => Reply::Refused(r),
-        Answer::Accepted => questions::equal(joined, t),
-    }
+    both.answer?;
+    questions::equal(both.table, t)
 }
 
 // No for yes and yes for no.
-fn opposite(reply: Reply) -> Reply {
-    match reply {
-        Reply::Yes => Reply::No,
-        Reply::No => Reply::Yes,
-        Reply::Refused(r) => Reply::Refused(r),
-    }
+fn opposite(reply: Result<bool, Refusal>) -> Result<bool, Refusal> {
+    Ok(!reply?)
 }
 
 // Is g one of the groups of the table? Of a negative table it is where no entry covers it.
-fn stands_for(side: Side, t: Table, g: u32) -> Reply {
+fn stands_for(side: Side, t: Table, g: u32) -> Result<bool, Refusal> {
     match side {
         Side::Positive => covers(t, g),
         Side::Negative => opposite(covers(t, g)),
@@ -131,13 +117,11 @@ fn digits(l: u32, k: u32) -> [u8; 16]
 {
     let mut out = [b'0'; 16];
     let mut left = k;
-    let mut i = l as usize;
-    while 0 < i {
-        i -= 1;
+    for i in (0..l as usize).rev() {
         if left % 2 == 1 {
             out[i] = b'1';
         }
-        left = left / 2;
+        left /= 2;
     }
     out
 }
@@ -180,12 +164,12 @@ fn write_group(rt: &impl Print, side: Side, l: u32, t: Table, k: u32) -> io::Res
     let text: &[u8] = &space;
     let g = read_string(text, 0, l);
     match stands_for(side, t, g.value) {
-        Reply::Yes => {
+        Ok(true) => {
             write(rt, b" ")?;
             write_front(rt, text, l as usize)
         }
-        Reply::No => Ok(()),
-        Reply::Refused(r) => {
+        Ok(false) => Ok(()),
+        Err(r) => {
             write(rt, b" ")?;
             write_refusal(rt, r)
         }
@@ -197,11 +181,8 @@ fn write_groups(rt: &impl Print, side: Side, l: u32, t: Table) -> io::Result<()>
     requires { l ≤ 16 }
 {
     write(rt, b"groups")?;
-    let end = 1u32 << l;
-    let mut k = 1u32;
-    while k < end {
+    for k in 1..1u32 << l {
         write_group(rt, side, l, t, k)?;
-        k += 1;
     }
     Ok(())
 }
@@ -209,9 +190,9 @@ fn write_groups(rt: &impl Print, side: Side, l: u32, t: Table) -> io::Result<()>
 // Writes whether two tables of one side are equal in groups.
 fn write_comparison(rt: &impl Print, t: Table, u: Table) -> io::Result<()> {
     match questions::equal(t, u) {
-        Reply::Yes => write(rt, b" : as in the paper, "),
-        Reply::No => write(rt, b" : not as in the paper, "),
-        Reply::Refused(r) => {
+        Ok(true) => write(rt, b" : as in the paper, "),
+        Ok(false) => write(rt, b" : not as in the paper, "),
+        Err(r) => {
             write(rt, b" : ")?;
             write_refusal(rt, r)?;
             write(rt, b" beside the paper's ")
@@ -223,11 +204,10 @@ fn write_comparison(rt: &impl Print, t: Table, u: Table) -> io::Result<()> {
 fn compare(rt: &impl Print, side: Side, l: u32, computed: Answered, paper: &[u8]) -> io::Result<()>
     requires { (0 < l) × (l ≤ 16) × (length paper.now ≤ 254) }
 {
-    let answer = computed.answer;
     let t = computed.table;
-    match answer {
-        Answer::Refused(r) => write_refusal(rt, r)?,
-        Answer::Accepted => {
+    match computed.answer {
+        Err(r) => write_refusal(rt, r)?,
+        Ok(()) => {
             write_groups(rt, side, l, t)?;
             write_comparison(rt, t, read_table(l, paper))?;
             write_set(rt, side, paper)?;

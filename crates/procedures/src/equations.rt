@@ -10,7 +10,6 @@ ghost use Rattle.procedures.specs.Parts.{OfSets, closed_cross, positive_closed_c
 ghost use Rattle.procedures.specs.Parts.{negative_closed_cross};
 
 use candidates::Pairing;
-use lists::Grown;
 
 // The closed cross of the lists a and b, made in a. `c` and `row` are room.
 fn closed_cross(
@@ -21,16 +20,14 @@ fn closed_cross(
     l: u32,
     c: &mut [u64; 256],
     row: &mut [u64; 256],
-) -> Grown
+) -> Option<usize>
     requires { (an ≤ 256) × (bn ≤ 256) × (l ≤ 32) }
     ensures within { Within result }
     ensures made { (α β : Entries) → Holds l a.old an α → Holds l b.now bn β
         → Makes l a.new result (closed_cross α β) }
 {
-    match candidates::pairs::pairs(Pairing::Or, a, an, b, bn, l, c, row) {
-        Grown::Count(k) => candidates::closing::close(c, k, l, a, row),
-        Grown::Full => Grown::Full,
-    }
+    let k = candidates::pairs::pairs(Pairing::Or, a, an, b, bn, l, c, row)?;
+    candidates::closing::close(c, k, l, a, row)
 }
 
 // The closed cross of the relevant entries of a positive table, which is room once they are made. `row` is room.
@@ -42,19 +39,15 @@ fn positive_closed_cross(
     mt: u32,
     list: &mut [u64; 256],
     row: &mut [u64; 256],
-) -> Grown
+) -> Option<usize>
     requires { (tn ≤ 256) × (l ≤ 32) }
     ensures within { Within result }
     ensures made { OfSets l t.entry.now tn mx mt (λ τ x t. Makes l list.new result (positive_closed_cross x t τ)) }
 {
     let mut b = [0u64; 256];
-    match candidates::pairs::relevant_by_entry(t, tn, l, mx, list, row) {
-        Grown::Count(an) => match candidates::pairs::relevant_by_entry(t, tn, l, mt, &mut b, row) {
-            Grown::Count(bn) => closed_cross(list, an, &b, bn, l, t, row),
-            Grown::Full => Grown::Full,
-        },
-        Grown::Full => Grown::Full,
-    }
+    let an = candidates::pairs::relevant_by_entry(t, tn, l, mx, list, row)?;
+    let bn = candidates::pairs::relevant_by_entry(t, tn, l, mt, &mut b, row)?;
+    closed_cross(list, an, &b, bn, l, t, row)
 }
 
 // Equation, positive, for x alone in mx and t's variables in mt. Of the table's array nothing is said afterwards.
@@ -65,22 +58,16 @@ pub fn positive_in_place(
     mx: u32,
     mt: u32,
     list: &mut [u64; 256],
-) -> Grown
+) -> Option<usize>
     requires { (tn ≤ 256) × (l ≤ 32) }
     ensures within { Within result }
     ensures made { OfSets l t.entry.now tn mx mt (λ τ x t. Makes l list.new result (positive_equation x t τ)) }
 {
     let mut crossed = [0u64; 256];
     let mut row = [0u64; 256];
-    match candidates::pairs::irrelevant_in_row(t, tn, l, mx | mt, list, &mut row) {
-        Grown::Count(n) => {
-            match positive_closed_cross(t, tn, l, mx, mt, &mut crossed, &mut row) {
-                Grown::Count(k) => lists::growth::grow_each(list, n, l, &crossed, k),
-                Grown::Full => Grown::Full,
-            }
-        }
-        Grown::Full => Grown::Full,
-    }
+    let n = candidates::pairs::irrelevant_in_row(t, tn, l, mx | mt, list, &mut row)?;
+    let k = positive_closed_cross(t, tn, l, mx, mt, &mut crossed, &mut row)?;
+    lists::growth::grow_each(list, n, l, &crossed, k)
 }
 
 // The groups of a negative table that have a variable of the set m, as a positive list. `other`, `taken` and `edges` are
@@ -94,17 +81,15 @@ fn having(
     other: &mut [u64; 256],
     taken: &mut [u64; 256],
     edges: &mut [u64; 256],
-) -> Grown
+) -> Option<usize>
     requires { (tn ≤ 256) × (l ≤ 32) }
     ensures within { Within result }
     ensures made { (τ : Entries) (k : Bits) → Holds l t.now tn τ → length k ≡ l → m ≡ set_word k
         → Makes l list.new result (having_set l k τ) }
 {
     *other = *t;
-    match lists::growth::grow(other, tn, l, (m as u64) << 32) {
-        Grown::Count(n) => sides::change_side_lent(other, n, l, list, taken, edges),
-        Grown::Full => Grown::Full,
-    }
+    let n = lists::growth::grow(other, tn, l, (m as u64) << 32)?;
+    sides::change_side_lent(other, n, l, list, taken, edges)
 }
 
 // The closed cross of the groups of a negative table that have x and of those that have a variable of t, as a negative list.
@@ -118,27 +103,21 @@ fn negative_closed_cross(
     list: &mut [u64; 256],
     other: &mut [u64; 256],
     row: &mut [u64; 256],
-) -> Grown
+) -> Option<usize>
     requires { (tn ≤ 256) × (l ≤ 32) }
     ensures within { Within result }
     ensures made { OfSets l t.entry.now tn mx mt (λ τ x t. Makes l list.new result (negative_closed_cross l x t τ)) }
 {
     let mut a = [0u64; 256];
     let mut edges = [0u64; 256];
-    match having(t, tn, l, mx, &mut a, other, row, &mut edges) {
-        Grown::Count(an) => match having(t, tn, l, mt, list, other, row, &mut edges) {
-            Grown::Count(bn) => match closed_cross(&mut a, an, list, bn, l, other, row) {
-                Grown::Count(n) => sides::change_side_lent(&a, n, l, list, other, row),
-                Grown::Full => Grown::Full,
-            },
-            Grown::Full => Grown::Full,
-        },
-        Grown::Full => Grown::Full,
-    }
+    let an = having(t, tn, l, mx, &mut a, other, row, &mut edges)?;
+    let bn = having(t, tn, l, mt, list, other, row, &mut edges)?;
+    let n = closed_cross(&mut a, an, list, bn, l, other, row)?;
+    sides::change_side_lent(&a, n, l, list, other, row)
 }
 
 // The table grown, in place, by an entry for each variable of the set m: 1 there and `*` elsewhere. `row` is room.
-fn lacking(t: &mut [u64; 256], tn: usize, l: u32, m: u32, row: &mut [u64; 256]) -> Grown
+fn lacking(t: &mut [u64; 256], tn: usize, l: u32, m: u32, row: &mut [u64; 256]) -> Option<usize>
     requires { (tn ≤ 256) × (l ≤ 32) }
     ensures within { Within result }
     ensures made { (τ : Entries) (k : Bits) → Holds l t.old tn τ → length k ≡ l → m ≡ set_word k
@@ -156,26 +135,27 @@ pub fn negative_in_place(
     mx: u32,
     mt: u32,
     list: &mut [u64; 256],
-) -> Grown
+) -> Option<usize>
     requires { (tn ≤ 256) × (l ≤ 32) }
     ensures within { Within result }
     ensures made { OfSets l t.entry.now tn mx mt (λ τ x t. Makes l list.new result (negative_equation l x t τ)) }
 {
     let mut crossed = [0u64; 256];
     let mut row = [0u64; 256];
-    match negative_closed_cross(t, tn, l, mx, mt, &mut crossed, list, &mut row) {
-        Grown::Count(k) => match lacking(t, tn, l, mx | mt, &mut row) {
-            Grown::Count(c) => {
-                candidates::pairs::pairs(Pairing::Meet, t, c, &crossed, k, l, list, &mut row)
-            }
-            Grown::Full => Grown::Full,
-        },
-        Grown::Full => Grown::Full,
-    }
+    let k = negative_closed_cross(t, tn, l, mx, mt, &mut crossed, list, &mut row)?;
+    let c = lacking(t, tn, l, mx | mt, &mut row)?;
+    candidates::pairs::pairs(Pairing::Meet, t, c, &crossed, k, l, list, &mut row)
 }
 
 // Equation, positive, for x alone in mx and t's variables in mt.
-pub fn positive(t: &[u64; 256], tn: usize, l: u32, mx: u32, mt: u32, list: &mut [u64; 256]) -> Grown
+pub fn positive(
+    t: &[u64; 256],
+    tn: usize,
+    l: u32,
+    mx: u32,
+    mt: u32,
+    list: &mut [u64; 256],
+) -> Option<usize>
     requires { (tn ≤ 256) × (l ≤ 32) }
     ensures within { Within result }
     ensures made { OfSets l t.entry.now tn mx mt (λ τ x t. Makes l list.new result (positive_equation x t τ)) }
@@ -185,7 +165,14 @@ pub fn positive(t: &[u64; 256], tn: usize, l: u32, mx: u32, mt: u32, list: &mut 
 }
 
 // Equation, negative, for x alone in mx and t's variables in mt.
-pub fn negative(t: &[u64; 256], tn: usize, l: u32, mx: u32, mt: u32, list: &mut [u64; 256]) -> Grown
+pub fn negative(
+    t: &[u64; 256],
+    tn: usize,
+    l: u32,
+    mx: u32,
+    mt: u32,
+    list: &mut [u64; 256],
+) -> Option<usize>
     requires { (tn ≤ 256) × (l ≤ 32) }
     ensures within { Within result }
     ensures made { OfSets l t.entry.now tn mx mt (λ τ x t. Makes l list.new result (negative_equation l x t τ)) }

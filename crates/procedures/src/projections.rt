@@ -7,7 +7,6 @@ ghost use Rattle.words.specs.Words.{set_word};
 ghost use Rattle.lists.specs.WorkingLists.{Holds, Within, Makes};
 
 use candidates::Pairing;
-use lists::Grown;
 
 // Join, positive: the first list grown by the strings of the second.
 pub fn join_positive(
@@ -17,7 +16,7 @@ pub fn join_positive(
     bn: usize,
     l: u32,
     list: &mut [u64; 256],
-) -> Grown
+) -> Option<usize>
     requires { (an ≤ 256) × (bn ≤ 256) × (l ≤ 32) }
     ensures within { Within result }
     ensures made { (α β : Entries) → Holds l a.now an α → Holds l b.now bn β
@@ -35,7 +34,7 @@ pub fn join_negative(
     bn: usize,
     l: u32,
     list: &mut [u64; 256],
-) -> Grown
+) -> Option<usize>
     requires { (an ≤ 256) × (bn ≤ 256) × (l ≤ 32) }
     ensures within { Within result }
     ensures made { (α β : Entries) → Holds l a.now an α → Holds l b.now bn β
@@ -46,7 +45,7 @@ pub fn join_negative(
 }
 
 // Projection, positive, onto the set keep: each string is cut and grown.
-pub fn positive(t: &[u64; 256], tn: usize, keep: u32, list: &mut [u64; 256]) -> Grown
+pub fn positive(t: &[u64; 256], tn: usize, keep: u32, list: &mut [u64; 256]) -> Option<usize>
     requires { tn ≤ 256 }
     ensures within { Within result }
     ensures made { (k : Bits) (τ : Entries) → Holds (length k) t.now tn τ → keep ≡ set_word k
@@ -60,7 +59,13 @@ pub fn positive(t: &[u64; 256], tn: usize, keep: u32, list: &mut [u64; 256]) -> 
 }
 
 // Projection, negative, of strings of l positions: by way of positive.
-pub fn negative(t: &[u64; 256], tn: usize, l: u32, keep: u32, list: &mut [u64; 256]) -> Grown
+pub fn negative(
+    t: &[u64; 256],
+    tn: usize,
+    l: u32,
+    keep: u32,
+    list: &mut [u64; 256],
+) -> Option<usize>
     requires { (tn ≤ 256) × (l ≤ 32) }
     ensures within { Within result }
     ensures made { (k : Bits) (τ : Entries) → Holds l t.now tn τ → length k ≡ l → keep ≡ set_word k
@@ -69,14 +74,8 @@ pub fn negative(t: &[u64; 256], tn: usize, l: u32, keep: u32, list: &mut [u64; 2
     let mut other = [0u64; 256];
     let mut taken = [0u64; 256];
     let mut edges = [0u64; 256];
-    match sides::change_side_lent(t, tn, l, list, &mut taken, &mut edges) {
-        Grown::Count(n) => match positive(list, n, keep, &mut other) {
-            Grown::Count(k) => {
-                let w = u32::count_ones(keep);
-                sides::change_side_lent(&other, k, w, list, &mut taken, &mut edges)
-            }
-            Grown::Full => Grown::Full,
-        },
-        Grown::Full => Grown::Full,
-    }
+    let n = sides::change_side_lent(t, tn, l, list, &mut taken, &mut edges)?;
+    let k = positive(list, n, keep, &mut other)?;
+    let w = u32::count_ones(keep);
+    sides::change_side_lent(&other, k, w, list, &mut taken, &mut edges)
 }

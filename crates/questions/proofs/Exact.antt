@@ -14,15 +14,15 @@ use Rattle.words.specs.Words.{set}
 use Rattle.tables.specs.declared.Table.{Table}
 use Rattle.tables.specs.declared.Refusal.{Refusal}
 use Rattle.tables.specs.declared.Refusal.TheVariants as R
-use Rattle.tables.specs.declared.Answer.{Answer}
-use Rattle.tables.specs.declared.Answer.TheVariants as A
+use Rattle.tables.specs.Refusals.{Answer}
+use Rattle.tables.specs.Refusals as A
 use Rattle.tables.specs.Refusals.{if_accepted}
 use Rattle.tables.specs.Values.{entries_of, check_table, GoodTable}
 use Rattle.tables.proofs.Checking.{passes_good}
 use Rattle.covering.proofs.Inclusion.{equal_within}
 use Rattle.operations.specs.Outcomes.{TableValue, groups_of, JoinEarly, JoinReady}
-use Rattle.questions.specs.declared.Reply.{Reply}
-use Rattle.questions.specs.declared.Reply.TheVariants.{Refused}
+use Rattle.questions.specs.Replies.{Reply}
+use Rattle.questions.specs.Replies.{Refused}
 use Rattle.questions.specs.Replies.{replies, good_sets, equal_call, ground_call, independent_call}
 use Rattle.questions.specs.Statements.{Replied, early, yes, no, EqualReplied, GroundEarly, GroundReady, GroundReplied}
 use Rattle.questions.specs.Statements.{IndependentEarly, IndependentReady, IndependentReplied}

@@ -13,8 +13,8 @@ use Rattle.tables.specs.Refusals.{member, one_of}
 use Rattle.tables.proofs.Numbers.{within}
 use Rattle.operations.specs.Outcomes.{TableValue}
 use Rattle.operations.proofs.Exclusive.{Conditions, tested, paired}
-use Rattle.questions.specs.declared.Reply.{Reply}
-use Rattle.questions.specs.declared.Reply.TheVariants.{Refused}
+use Rattle.questions.specs.Replies.{Reply}
+use Rattle.questions.specs.Replies.{Refused}
 use Rattle.questions.specs.Replies.{good_sets}
 use Rattle.questions.specs.Statements.{Replied, early, yes, no, ExclusiveReplies, EqualExclusive, GroundExclusive}
 use Rattle.questions.specs.Statements.{IndependentExclusive}

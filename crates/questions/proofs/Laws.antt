@@ -19,7 +19,7 @@ use Rattle.tables.specs.declared.Table.{Table}
 use Rattle.tables.specs.Values.{GoodTable}
 use Rattle.tables.proofs.Checking.{good_long}
 use Rattle.operations.specs.Outcomes.{TableValue}
-use Rattle.questions.specs.declared.Reply.TheVariants.{Yes}
+use Rattle.questions.specs.Replies.{Yes}
 use Rattle.questions.specs.Replies.{good_sets, independent_call}
 use Rattle.questions.proofs.Exclusive.{independent_exclusive}
 

@@ -1,15 +1,27 @@
 -- The three questions on table values (01, "Questions" and "Refusals"): 2, 3, 4 of each table; 5 for a variable not 1 to l; 10.
-use Rattle.std.specs.Prelude.{Bool, ◌&&◌, cond, ℕ, ◌^◌, ltb, eqb}
+use Rattle.std.specs.Prelude.{Bool, true, false, ◌&&◌, cond, ℕ, ◌^◌, ltb, eqb, Result, Ok, Err}
 use Rattle.model.specs.Tables.{Side, positive}
 use Rattle.model.specs.Tokens.{named}
 use Rattle.model.specs.Questions.{equal, ground, independent}
 use Rattle.words.specs.Words.{set}
 use Rattle.tables.specs.declared.Table.{Table}
+use Rattle.tables.specs.declared.Refusal.{Refusal}
 use Rattle.tables.specs.declared.Refusal.TheVariants as R
 use Rattle.tables.specs.Refusals.{refusal_number, if_accepted}
 use Rattle.tables.specs.Values.{entries_of, check_table}
-use Rattle.questions.specs.declared.Reply.{Reply}
-use Rattle.questions.specs.declared.Reply.TheVariants.{Yes, No, Refused}
+
+-- What a question is answered: yes, no, or a refusal. In the code that is a `Result<bool, Refusal>`.
+abbrev pub Reply : Type 0
+Reply = Result Bool Refusal
+
+pattern abbrev pub Yes : Reply
+Yes = Ok true
+
+pattern abbrev pub No : Reply
+No = Ok false
+
+pattern abbrev pub Refused : Refusal → Reply
+Refused r = Err r
 
 -- An answer as a reply.
 unfoldable pub replies : Bool → Reply

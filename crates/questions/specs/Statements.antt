@@ -7,12 +7,12 @@ use Rattle.words.specs.Words.{set}
 use Rattle.tables.specs.declared.Table.{Table}
 use Rattle.tables.specs.declared.Refusal.{Refusal}
 use Rattle.tables.specs.declared.Refusal.TheVariants as R
-use Rattle.tables.specs.declared.Answer.TheVariants as A
+use Rattle.tables.specs.Refusals as A
 use Rattle.tables.specs.Refusals.{one_of}
 use Rattle.tables.specs.Values.{check_table, GoodTable}
 use Rattle.operations.specs.Outcomes.{groups_of, JoinEarly, JoinReady}
-use Rattle.questions.specs.declared.Reply.{Reply}
-use Rattle.questions.specs.declared.Reply.TheVariants.{Yes, No, Refused}
+use Rattle.questions.specs.Replies.{Reply}
+use Rattle.questions.specs.Replies.{Yes, No, Refused}
 use Rattle.questions.specs.Replies.{good_sets, equal_call, ground_call, independent_call}
 
 -- A reply: refused by a number in its condition; else yes exactly where the statement over groups holds.

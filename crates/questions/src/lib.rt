@@ -10,46 +10,27 @@ ghost use Rattle.operations.specs.Operations.{side_of};
 ghost use Rattle.questions.specs.Replies.{replies, reply_number, reply_word, equal_call, ground_call, independent_call};
 
 use operations::Side;
-use tables::{Answer, Refusal, Table};
-
-// What a question is answered.
-#[derive(Clone, Copy)]
-pub enum Reply {
-    Yes,
-    No,
-    Refused(Refusal),
-}
+use tables::{Refusal, Table};
 
 // The number of a reply: 0 for yes and for no, else that of the refusal.
-pub fn reply_number(reply: Reply) -> u32
+pub fn reply_number(reply: Result<bool, Refusal>) -> u32
     ensures { result ≡ reply_number reply }
 {
     match reply {
-        Reply::Yes => 0,
-        Reply::No => 0,
-        Reply::Refused(r) => tables::refusal_number(r),
+        Ok(_) => 0,
+        Err(r) => tables::refusal_number(r),
     }
 }
 
 // The word of a reply, in place of the word w: 1 for yes, 0 for no, and w itself where the question is refused.
-pub fn reply_word(reply: Reply, w: u32) -> u32
+pub fn reply_word(reply: Result<bool, Refusal>, w: u32) -> u32
     ensures { result ≡ reply_word reply w }
 {
     match reply {
-        Reply::Yes => 1,
-        Reply::No => 0,
-        Reply::Refused(r) => w,
+        Ok(true) => 1,
+        Ok(false) => 0,
+        Err(_) => w,
     }
-}
-
-// An answer as a reply.
-fn replied(yes: bool) -> Reply
-    ensures { result ≡ replies yes }
-{
-    if yes {
-        return Reply::Yes;
-    }
-    Reply::No
 }
 
 // Do two checked tables of one width and one side, whichever it is, stand for the same groups?
@@ -68,22 +49,15 @@ fn equal_checked(t: Table, u: Table) -> bool
 }
 
 // Are two tables of one side equal in groups? The answer is the same for both sides.
-pub fn equal(t: Table, u: Table) -> Reply
+pub fn equal(t: Table, u: Table) -> Result<bool, Refusal>
     ensures { result ≡ equal_call t u }
 {
-    match tables::check(t) {
-        Answer::Refused(r) => Reply::Refused(r),
-        Answer::Accepted => match tables::check(u) {
-            Answer::Refused(r) => Reply::Refused(r),
-            Answer::Accepted => {
-                if t.l == u.l {
-                    replied(equal_checked(t, u))
-                } else {
-                    Reply::Refused(Refusal::Unlike)
-                }
-            }
-        },
+    tables::check(t)?;
+    tables::check(u)?;
+    if t.l != u.l {
+        return Err(Refusal::Unlike);
     }
+    Ok(equal_checked(t, u))
 }
 
 // Has no group of a checked table the variable Xx?
@@ -102,19 +76,14 @@ fn ground_checked(side: Side, t: Table, x: u32) -> bool
 }
 
 // Is the variable Xx ground: has no group it?
-pub fn ground(side: Side, t: Table, x: u32) -> Reply
+pub fn ground(side: Side, t: Table, x: u32) -> Result<bool, Refusal>
     ensures { result ≡ ground_call (side_of side) t x }
 {
-    match tables::check(t) {
-        Answer::Refused(r) => Reply::Refused(r),
-        Answer::Accepted => {
-            if (0 < x) & (x <= t.l) {
-                replied(ground_checked(side, t, x))
-            } else {
-                Reply::Refused(Refusal::Name)
-            }
-        }
+    tables::check(t)?;
+    if !((0 < x) & (x <= t.l)) {
+        return Err(Refusal::Name);
     }
+    Ok(ground_checked(side, t, x))
 }
 
 // Does no group of a checked table meet both sets?
@@ -133,18 +102,13 @@ fn independent_checked(side: Side, t: Table, a: u32, b: u32) -> bool
 }
 
 // Are two sets of variables, bit i - 1 for Xi, independent: does no group meet both?
-pub fn independent(side: Side, t: Table, a: u32, b: u32) -> Reply
+pub fn independent(side: Side, t: Table, a: u32, b: u32) -> Result<bool, Refusal>
     ensures { result ≡ independent_call (side_of side) t a b }
 {
-    match tables::check(t) {
-        Answer::Refused(r) => Reply::Refused(r),
-        Answer::Accepted => {
-            let full = words::full(t.l);
-            if (a <= full) & (b <= full) {
-                replied(independent_checked(side, t, a, b))
-            } else {
-                Reply::Refused(Refusal::Name)
-            }
-        }
+    tables::check(t)?;
+    let full = words::full(t.l);
+    if !((a <= full) & (b <= full)) {
+        return Err(Refusal::Name);
     }
+    Ok(independent_checked(side, t, a, b))
 }

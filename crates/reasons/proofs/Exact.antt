@@ -1,5 +1,5 @@
--- Each verdict is given exactly in its condition over groups, and s is told to be there exactly when it is in the groups after the
--- equation, by the binary definition. Assumes nothing.
+-- Each verdict is given exactly in its condition over groups, and s is told to be there exactly when it is in the groups after
+-- the equation, by the binary definition. Assumes nothing.
 use mathlib.Core.Path.{◌≡◌, refl, sym, ◌∙◌, subst}
 use mathlib.Core.Bool.{cond}
 use mathlib.Core.List.{[]}
@@ -23,8 +23,8 @@ use Rattle.model.proofs.Reasons.{lowest_found, lowest_is, lowest_none}
 use Rattle.covering.proofs.EveryGroup.{test}
 use Rattle.covering.proofs.Pieces.{covered_at, covered_of}
 use Rattle.reasons.specs.declared.Reason.TheVariants.{NoXEntry, NoTEntry, NotMadeUp, NotThere, NoSolution}
-use Rattle.reasons.specs.declared.Verdict.{Verdict}
-use Rattle.reasons.specs.declared.Verdict.TheVariants.{Kept, Joined, Absent, Refused}
+use Rattle.reasons.specs.Verdicts.{Verdict}
+use Rattle.reasons.specs.Verdicts.{Kept, Joined, Absent, Refused}
 use Rattle.reasons.specs.Verdicts.{verdict_number, untouched, joins, touched, verdict_of_sets, verdict_of_kind, verdict}
 use Rattle.reasons.specs.Statements.{Untouched, Touched, XWithin, TWithin, Where, There}
 
@@ -208,7 +208,8 @@ module _ (l : ℕ) (e : Equation) (τ : Entries) (s : Bits) (group : Group l s) 
       by_relevance p (yes h) =
           let t : Touched e s = (p, (relevant_same s group.0).0 h) in
           rw (touched_is t)
-          (joins_where t (lowest (covers_inside l s mx) τ) (lowest (covers_inside l s mt) τ) (lowest_found (covers_inside l s mx) τ)
+          (joins_where t (lowest (covers_inside l s mx) τ) (lowest (covers_inside l s mt) τ)
+          (lowest_found (covers_inside l s mx) τ)
           (lowest_found (covers_inside l s mt) τ))
       by_relevance p (no n) =
           let u : Untouched e s = inr (p, λ r. n ((relevant_same s group.0).1 r)) in

@@ -15,8 +15,8 @@ use Rattle.words.proofs.Codec.{set_length, set_word_set, nonzero_word}
 use Rattle.tables.specs.declared.Table.{Table}
 use Rattle.tables.specs.declared.Refusal.{Refusal}
 use Rattle.tables.specs.declared.Refusal.TheVariants as R
-use Rattle.tables.specs.declared.Answer.{Answer}
-use Rattle.tables.specs.declared.Answer.TheVariants as A
+use Rattle.tables.specs.Refusals.{Answer}
+use Rattle.tables.specs.Refusals as A
 use Rattle.tables.specs.Refusals.{if_accepted, member, one_of, Numbered}
 use Rattle.tables.specs.Values.{entries_of, check_table, GoodTable}
 use Rattle.tables.proofs.Checking.{passes_good}
@@ -24,8 +24,8 @@ use Rattle.tables.proofs.Numbers.{within, one_of_more, refusal_some, refused_num
 use Rattle.terms.specs.Checks as C
 use Rattle.operations.specs.Outcomes.{TableValue, EquationReady}
 use Rattle.operations.proofs.Exclusive.{Conditions, and_then, as_said, table_conditions, term_conditions}
-use Rattle.reasons.specs.declared.Verdict.{Verdict}
-use Rattle.reasons.specs.declared.Verdict.TheVariants.{Refused}
+use Rattle.reasons.specs.Verdicts.{Verdict}
+use Rattle.reasons.specs.Verdicts.{Refused}
 use Rattle.reasons.specs.Verdicts.{verdict_number, check_group, group_call, reason_call, verdict}
 use Rattle.reasons.specs.Statements.{Judged, early, judged, ExclusiveVerdicts, ReasonEarly, ReasonReady}
 use Rattle.reasons.specs.Statements.{TableWhere, InAfter, ReasonJudged, ReasonExclusive}
@@ -131,6 +131,7 @@ reason_exclusive t x ts s value =
     (group_conditions t.l s tt))
     (λ r e. e) (λ p. p))
     refl
-    (λ p q u k. subst (λ (w : Term). TableWhere t (record { left = x; right = w }) s u) (let is : p.0.term ≡ q.0.term = cc in is) k)
+    (λ p q u k.
+    subst (λ (w : Term). TableWhere t (record { left = x; right = w }) s u) (let is : p.0.term ≡ q.0.term = cc in is) k)
     (λ p q k. subst (λ (w : Term). InAfter t (record { left = x; right = w }) s) (let is : p.0.term ≡ q.0.term = cc in is) k)
     (reason_judged t x ts s value)

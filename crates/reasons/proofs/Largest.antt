@@ -109,7 +109,11 @@ unfolding largest
 largest_has s e n y h = go (decide (fits s e)) h
   where
     go : Dec (T (fits s e)) → T (has (largest s e) y) → (largest s e ≡ rest s e) × T (covers e (rest s e)) × Inside s (rest s e)
-    go (yes k) h = (ap (λ (c : Bool). cond c (rest s e) (map (λ (b : Bool). false) s)) (true_of (fits s e) k), rest_covered s e n k, rest_inside s e)
+    go (yes k) h = (
+      ap (λ (c : Bool). cond c (rest s e) (map (λ (b : Bool). false) s)) (true_of (fits s e) k),
+      rest_covered s e n k,
+      rest_inside s e,
+    )
     go (no k) h = absurd (none_has s y (rw (false_of (fits s e) k) at h))
 
 -- it has all variables of each group inside s that the entry covers

@@ -7,8 +7,9 @@ use mathlib.Core.Logic.{⊎_elim}
 use Prim.Native.Nat.{ℕ, zero, suc, ◌≤◌, ◌<◌}
 use native.Mathlib.Nat.{eq-or-lt_of_le, le_of_suc-le-suc}
 use native.Mathlib.Omega.{arith}
-use borrow.Author.Tests.{eq-eqb, ne_eqb, lt-ltb, le-ltb}
+use borrow.Author.Tests.{eq-eqb, ne_eqb}
 use lib.Bits.{bit_and, bit_or}
+use Rattle.std.specs.Prelude.{Some, None}
 use lib.Dec.{T, eqb, eqb→eq, eqb_refl}
 use lib.ListN.{length, get_or, length-map}
 use Rattle.model.specs.Groups.{Bits, has, meets, or}
@@ -54,22 +55,18 @@ module _ {l : ℕ} {list : List ℕ} {n : ℕ} {τ : Entries} (h : Holds l list 
 
   -- The first entry that passes.
   pub found_here : (i : ℕ) → i < n → ((j : ℕ) → j < i → bit_and (largest_word (get_or list j 0) s) m ≡ 0)
-      → ¬ (bit_and (largest_word (get_or list i 0) s) m ≡ 0) → found n i ≡ lowest (covers_inside l r k) τ
-  unfolding found
+      → ¬ (bit_and (largest_word (get_or list i 0) s) m ≡ 0) → found (Some i) ≡ lowest (covers_inside l r k) τ
   found_here i lt f here =
-      rw (lt-ltb i n lt)
-      (sym (lowest_is (covers_inside l r k) τ i (omega (arith, lt, h.count)) (reached i lt here)
-      (λ j below. unreached j (omega (arith, lt, below)) (f j below))))
+      sym (lowest_is (covers_inside l r k) τ i (omega (arith, lt, h.count)) (reached i lt here)
+      (λ j below. unreached j (omega (arith, lt, below)) (f j below)))
 
   -- None does.
   pub found_nowhere : ((j : ℕ) → j < n → bit_and (largest_word (get_or list j 0) s) m ≡ 0)
-      → found n n ≡ lowest (covers_inside l r k) τ
-  unfolding found
+      → found None ≡ lowest (covers_inside l r k) τ
   found_nowhere f =
-      rw (le-ltb n n (omega arith))
-      (sym (lowest_none (covers_inside l r k) τ (λ j below.
+      sym (lowest_none (covers_inside l r k) τ (λ j below.
       let lt : j < n = omega (arith, below, h.count) in
-      unreached j lt (f j lt))))
+      unreached j lt (f j lt)))
 
 -- ---- The groups together
 
@@ -135,7 +132,8 @@ module _ {l : ℕ} {list : List ℕ} {n : ℕ} {τ : Entries} (h : Holds l list 
   unfolding parts none
   parts_length zero le = length-map r (λ (b : Bool). false) ∙ whole
   parts_length (suc i) le =
-      or_length (parts r k τ i) (part r k (get_or τ i [])) l (parts_length i (omega (arith, le))) (part_length i (omega (arith, le)))
+      or_length (parts r k τ i) (part r k (get_or τ i [])) l (parts_length i (omega (arith, le)))
+      (part_length i (omega (arith, le)))
 
   -- The parts of all entries are the groups together.
   parts_together : parts r k τ n ≡ together l r k τ

@@ -1,12 +1,11 @@
--- The parts of a verdict as the code makes them: an index that was found, a group in the table, a relevant group, the kind of the
+-- The parts of a verdict as the code makes them: a group in the table, a relevant group, the kind of the
 -- equation. Assumes nothing.
 use mathlib.Core.Path.{◌≡◌, refl, sym, ap, ap₂, ◌∙◌}
 use mathlib.Core.Bool.{Bool, true, false, not, ◌||◌, cond}
 use mathlib.Core.List.{[], ◌∷◌}
-use mathlib.Core.Option.{some, none}
-use Prim.Native.Nat.{ℕ, ◌^◌, ◌≤◌, ◌<◌}
+use Prim.Native.Nat.{ℕ, ◌^◌, ◌<◌}
 use native.Mathlib.Omega.{arith}
-use borrow.Author.Tests.{ltb-true, lt-ltb, le-ltb, eq-eqb, ne_eqb, not-true, not-false}
+use borrow.Author.Tests.{ltb-true, eq-eqb, ne_eqb, not-true, not-false}
 use lib.Bits.{bit_and, bit_or}
 use lib.Dec.{eqb, ltb}
 use Rattle.model.specs.Groups.{Bits, meets, or}
@@ -18,22 +17,11 @@ use Rattle.model.proofs.Strings.{subsumes_exact, exactly_covers, exactly_one}
 use Rattle.words.specs.Words.{set_word}
 use Rattle.words.proofs.Codec.{set_word_or, apart_words}
 use Rattle.tables.specs.declared.Refusal.TheVariants as R
-use Rattle.tables.specs.declared.Answer.TheVariants as A
+use Rattle.tables.specs.Refusals as A
 use Rattle.terms.specs.declared.Kind as K
 use Rattle.terms.specs.declared.Equation as E
 use Rattle.terms.specs.EquationKinds.{kind_named, Told}
-use Rattle.reasons.specs.Entries.{found}
 use Rattle.reasons.specs.Verdicts.{verdict_of_kind, verdict, check_group}
-
--- ---- An index
-
-pub found_past : {n i : ℕ} → i ≡ n → found n i ≡ none
-unfolding found
-found_past {n} {i} e = rw (le-ltb i n (omega (arith, e))) refl
-
-pub found_at : {n i : ℕ} → i ≤ n → ¬ (i ≡ n) → found n i ≡ some i
-unfolding found
-found_at {n} {i} le d = rw (lt-ltb i n (omega (arith, le, d))) refl
 
 -- ---- A group in the table
 

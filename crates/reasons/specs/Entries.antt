@@ -1,5 +1,6 @@
--- The largest group inside a set s of variables that an entry covers, as a set and as a word; an index as an option.
-use Rattle.std.specs.Prelude.{Bool, true, false, ◌&&◌, cond, List, [], ◌∷◌, map, ◌≡◌, ℕ, zero, suc, eqb, ltb, length, get_or}
+-- The largest group inside a set s of variables that an entry covers, as a set and as a word; an index that was found.
+use Rattle.std.specs.Prelude.{Bool, true, false, ◌&&◌, cond, List, [], ◌∷◌, map, ◌≡◌, ℕ, zero, suc, eqb, length, get_or}
+use Rattle.std.specs.Prelude.{Option as CodeOption, Some, None}
 use Rattle.std.proofs.Math.Option.{Option, some, none}
 use Rattle.std.specs.Int.Bits.{bit_and, bit_or, bit_xor}
 use Rattle.model.specs.Groups.{Bits}
@@ -56,6 +57,7 @@ OfParts l list n s m P =
 
 -- ---- An index
 
--- The index i of an entry among n, or none where it is past them.
-unfoldable pub found : ℕ → ℕ → Option ℕ
-found n i = cond (ltb i n) (some i) none
+-- An index that the code found, or none, as an option of the model.
+abbrev pub found : CodeOption ℕ → Option ℕ
+found (Some i) = some i
+found None = none

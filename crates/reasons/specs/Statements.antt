@@ -9,13 +9,13 @@ use Rattle.words.specs.Words.{set}
 use Rattle.tables.specs.declared.Table.{Table}
 use Rattle.tables.specs.declared.Refusal.{Refusal}
 use Rattle.tables.specs.declared.Refusal.TheVariants as R
-use Rattle.tables.specs.declared.Answer.TheVariants as A
+use Rattle.tables.specs.Refusals as A
 use Rattle.tables.specs.Refusals.{one_of}
 use Rattle.tables.specs.Values.{entries_of}
 use Rattle.operations.specs.Outcomes.{groups_of, EquationEarly, EquationReady}
 use Rattle.reasons.specs.declared.Reason.TheVariants.{NoXEntry, NoTEntry, NotMadeUp, NotThere, NoSolution}
-use Rattle.reasons.specs.declared.Verdict.{Verdict}
-use Rattle.reasons.specs.declared.Verdict.TheVariants.{Kept, Joined, Absent, Refused}
+use Rattle.reasons.specs.Verdicts.{Verdict}
+use Rattle.reasons.specs.Verdicts.{Kept, Joined, Absent, Refused}
 use Rattle.reasons.specs.Verdicts.{verdict_number, check_group, reason_call}
 
 -- ---- The conditions

@@ -1,6 +1,6 @@
 -- What is told of a group s after x = t on a positive table (02, request 7), the number and the words of each case, and the
 -- call on table values: 2, 3, 4 of the table; 7, 5, 5, 6 of the equation; 4 for a bit of s above l; 11 for s = 0.
-use Rattle.std.specs.Prelude.{Bool, cond, List, ℕ, ◌^◌, ltb}
+use Rattle.std.specs.Prelude.{Bool, cond, List, ℕ, ◌^◌, ltb, Result, Ok, Err}
 use Rattle.std.proofs.Math.Option.{Option, some, none}
 use Rattle.model.specs.Groups.{Bits, meets, or}
 use Rattle.model.specs.Growth.{Entries, covered}
@@ -9,16 +9,33 @@ use Rattle.model.specs.Equations.{Equation, Kind, itself, deeper, plain, kind}
 use Rattle.model.specs.Reasons.{covers_inside, lowest, made_up}
 use Rattle.words.specs.Words.{set}
 use Rattle.tables.specs.declared.Table.{Table}
+use Rattle.tables.specs.declared.Refusal.{Refusal}
 use Rattle.tables.specs.declared.Refusal.TheVariants as R
-use Rattle.tables.specs.declared.Answer.{Answer}
-use Rattle.tables.specs.declared.Answer.TheVariants as A
+use Rattle.tables.specs.Refusals.{Answer}
+use Rattle.tables.specs.Refusals as A
 use Rattle.tables.specs.Refusals.{refusal_number, if_accepted}
 use Rattle.tables.specs.Values.{entries_of, check_table}
 use Rattle.terms.specs.Checks.{check_equation, if_read}
 use Rattle.reasons.specs.declared.Reason.{Reason}
 use Rattle.reasons.specs.declared.Reason.TheVariants.{NoXEntry, NoTEntry, NotMadeUp, NotThere, NoSolution}
-use Rattle.reasons.specs.declared.Verdict.{Verdict}
-use Rattle.reasons.specs.declared.Verdict.TheVariants.{Kept, Joined, Absent, Refused}
+use Rattle.reasons.specs.declared.Verdict as D
+use Rattle.reasons.specs.declared.Verdict.TheVariants as V
+
+-- What is told of a group: kept, joined or absent, or a refusal. In the code that is a `Result<Verdict, Refusal>`.
+abbrev pub Verdict : Type 0
+Verdict = Result D.Verdict Refusal
+
+pattern abbrev pub Kept : Verdict
+Kept = Ok V.Kept
+
+pattern abbrev pub Joined : ℕ → ℕ → Verdict
+Joined i j = Ok (V.Joined i j)
+
+pattern abbrev pub Absent : Reason → Verdict
+Absent r = Ok (V.Absent r)
+
+pattern abbrev pub Refused : Refusal → Verdict
+Refused r = Err r
 
 -- ---- Numbers and words
 

@@ -1,5 +1,5 @@
 // The entries that cover groups inside a set s of variables. Inner: not a public call.
-ghost use Rattle.std.specs.Prelude.{◌≡◌, ℕ, ◌≤◌, length};
+ghost use Rattle.std.specs.Prelude.{◌≡◌, ℕ, ◌≤◌, ◌<◌, length, IfSome};
 ghost use Rattle.model.specs.Groups.{Bits};
 ghost use Rattle.model.specs.Strings.{Trits};
 ghost use Rattle.model.specs.Reasons.{covers_inside, lowest as lowest_entry, together as together_set};
@@ -20,20 +20,18 @@ fn largest(e: u64, s: u32) -> u32
     s ^ (s & zeros)
 }
 
-// The lowest entry that covers a group inside s with a variable of m; n where none does.
-pub fn lowest(list: &[u64; 256], n: usize, s: u32, m: u32) -> usize
+// The lowest entry that covers a group inside s with a variable of m, if one does.
+pub fn lowest(list: &[u64; 256], n: usize, s: u32, m: u32) -> Option<usize>
     requires { n ≤ 256 }
-    ensures bound { result ≤ n }
-    ensures entry { (l : ℕ) → OfParts l list.now n s m (λ τ k h. found n result ≡ lowest_entry (covers_inside l k h) τ) }
+    ensures bound { IfSome result (λ i. i < n) }
+    ensures entry { (l : ℕ) → OfParts l list.now n s m (λ τ k h. found result ≡ lowest_entry (covers_inside l k h) τ) }
 {
-    let mut at = 0;
-    while at < n {
-        if largest(list[at], s) & m != 0 {
-            return at;
+    for (i, &e) in list[..n].iter().enumerate() {
+        if largest(e, s) & m != 0 {
+            return Some(i);
         }
-        at += 1;
     }
-    n
+    None
 }
 
 // The groups inside s that have a variable of m, together.
@@ -42,13 +40,11 @@ pub fn together(list: &[u64; 256], n: usize, s: u32, m: u32) -> u32
     ensures { (l : ℕ) → OfParts l list.now n s m (λ τ k h. result ≡ set_word (together_set l k h τ)) }
 {
     let mut set = 0u32;
-    let mut i = 0;
-    while i < n {
-        let g = largest(list[i], s);
+    for &e in &list[..n] {
+        let g = largest(e, s);
         if g & m != 0 {
-            set = set | g;
+            set |= g;
         }
-        i += 1;
     }
     set
 }

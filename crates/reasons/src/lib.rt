@@ -4,7 +4,7 @@
 
 pub mod entries; // the entries that cover groups inside s
 
-ghost use Rattle.std.specs.Prelude.{◌≡◌, ℕ, ◌≤◌, length};
+ghost use Rattle.std.specs.Prelude.{◌≡◌, ℕ, ◌≤◌, length, Ok};
 ghost use Rattle.model.specs.Groups.{Bits};
 ghost use Rattle.model.specs.Growth.{Entries};
 ghost use Rattle.model.specs.Equations as M;
@@ -15,13 +15,12 @@ ghost use Rattle.terms.specs.EquationKinds.{Told};
 ghost use Rattle.reasons.specs.Verdicts.{verdict_number, reason_word, verdict_word, x_word, t_word, untouched, touched};
 ghost use Rattle.reasons.specs.Verdicts.{verdict, check_group, group_call, reason_call};
 
-use operations::Given;
-use tables::{Answer, Refusal, Table};
+use tables::{Refusal, Table};
 use terms::{Equation, Kind};
 use words::Entry;
 
 // Why a group is not there after the equation.
-#[derive(Clone, Copy)]
+#[derive(Clone, Copy, Debug, PartialEq, Eq)]
 pub enum Reason {
     // No entry covers a group inside s that has x.
     NoXEntry,
@@ -42,18 +41,15 @@ pub enum Verdict {
     Kept,
     Joined { x_entry: u32, t_entry: u32 },
     Absent(Reason),
-    Refused(Refusal),
 }
 
 // The number of a verdict: 0, or that of the refusal.
-pub fn verdict_number(v: Verdict) -> u32
+pub fn verdict_number(v: Result<Verdict, Refusal>) -> u32
     ensures { result ≡ verdict_number v }
 {
     match v {
-        Verdict::Kept => 0,
-        Verdict::Joined { x_entry, t_entry } => 0,
-        Verdict::Absent(r) => 0,
-        Verdict::Refused(r) => tables::refusal_number(r),
+        Ok(_) => 0,
+        Err(r) => tables::refusal_number(r),
     }
 }
 
@@ -71,45 +67,45 @@ fn reason_word(r: Reason) -> u32
 }
 
 // The word of a verdict, in place of the word w: w itself where the call is refused.
-pub fn verdict_word(v: Verdict, w: u32) -> u32
+pub fn verdict_word(v: Result<Verdict, Refusal>, w: u32) -> u32
     ensures { result ≡ verdict_word v w }
 {
     match v {
-        Verdict::Kept => 0,
-        Verdict::Joined { x_entry, t_entry } => 1,
-        Verdict::Absent(r) => reason_word(r),
-        Verdict::Refused(r) => w,
+        Ok(Verdict::Kept) => 0,
+        Ok(Verdict::Joined { x_entry, t_entry }) => 1,
+        Ok(Verdict::Absent(r)) => reason_word(r),
+        Err(_) => w,
     }
 }
 
 // The word of the entry of x, in place of the word w: 0 unless s is joined.
-pub fn x_word(v: Verdict, w: u32) -> u32
+pub fn x_word(v: Result<Verdict, Refusal>, w: u32) -> u32
     ensures { result ≡ x_word v w }
 {
     match v {
-        Verdict::Kept => 0,
-        Verdict::Joined { x_entry, t_entry } => x_entry,
-        Verdict::Absent(r) => 0,
-        Verdict::Refused(r) => w,
+        Ok(Verdict::Kept) => 0,
+        Ok(Verdict::Joined { x_entry, t_entry }) => x_entry,
+        Ok(Verdict::Absent(_)) => 0,
+        Err(_) => w,
     }
 }
 
 // The word of the entry of t, in place of the word w: 0 unless s is joined.
-pub fn t_word(v: Verdict, w: u32) -> u32
+pub fn t_word(v: Result<Verdict, Refusal>, w: u32) -> u32
     ensures { result ≡ t_word v w }
 {
     match v {
-        Verdict::Kept => 0,
-        Verdict::Joined { x_entry, t_entry } => t_entry,
-        Verdict::Absent(r) => 0,
-        Verdict::Refused(r) => w,
+        Ok(Verdict::Kept) => 0,
+        Ok(Verdict::Joined { x_entry, t_entry }) => t_entry,
+        Ok(Verdict::Absent(_)) => 0,
+        Err(_) => w,
     }
 }
 
 // Of a group that the equation does not touch: is it in the table?
 fn kept(list: &[u64; 256], n: usize, l: u32, s: u32) -> Verdict
     requires { (n ≤ 256) × (l ≤ 32) }
-    ensures { (τ : Entries) (k : Bits) → Holds l list.now n τ → length k ≡ l → s ≡ set_word k → result ≡ untouched τ k }
+    ensures { (τ : Entries) (k : Bits) → Holds l list.now n τ → length k ≡ l → s ≡ set_word k → Ok result ≡ untouched τ k }
 {
     let y = words::word_of(Entry {
         care: words::full(l),
@@ -125,16 +121,14 @@ fn kept(list: &[u64; 256], n: usize, l: u32, s: u32) -> Verdict
 fn joined(list: &[u64; 256], n: usize, mx: u32, mt: u32, s: u32) -> Verdict
     requires { n ≤ 256 }
     ensures { (l : ℕ) (τ : Entries) (x t k : Bits) → Holds l list.now n τ → length x ≡ l → length t ≡ l → length k ≡ l
-        → mx ≡ set_word x → mt ≡ set_word t → s ≡ set_word k → result ≡ touched l x t τ k }
+        → mx ≡ set_word x → mt ≡ set_word t → s ≡ set_word k → Ok result ≡ touched l x t τ k }
 {
-    let i = crate::entries::lowest(list, n, s, mx);
-    if i == n {
+    let Some(i) = crate::entries::lowest(list, n, s, mx) else {
         return Verdict::Absent(Reason::NoXEntry);
-    }
-    let j = crate::entries::lowest(list, n, s, mt);
-    if j == n {
+    };
+    let Some(j) = crate::entries::lowest(list, n, s, mt) else {
         return Verdict::Absent(Reason::NoTEntry);
-    }
+    };
     if crate::entries::together(list, n, s, mx | mt) != s {
         return Verdict::Absent(Reason::NotMadeUp);
     }
@@ -148,7 +142,7 @@ fn joined(list: &[u64; 256], n: usize, mx: u32, mt: u32, s: u32) -> Verdict
 fn told(list: &[u64; 256], n: usize, l: u32, e: Equation, s: u32) -> Verdict
     requires { (n ≤ 256) × (l ≤ 32) }
     ensures { (τ : Entries) (q : M.Equation) (k : Bits) → Holds l list.now n τ → Told l e q → length k ≡ l → s ≡ set_word k
-        → result ≡ verdict l q τ k }
+        → Ok result ≡ verdict l q τ k }
 {
     let kind = e.kind;
     match kind {
@@ -164,53 +158,45 @@ fn told(list: &[u64; 256], n: usize, l: u32, e: Equation, s: u32) -> Verdict
 }
 
 // The checks of a group of l variables: 4 where s has a bit above l, 11 where it is 0.
-fn check_group(l: u32, s: u32) -> Answer
+fn check_group(l: u32, s: u32) -> Result<(), Refusal>
     requires { l ≤ 32 }
     ensures { result ≡ check_group l s }
 {
     if words::full(l) < s {
-        return Answer::Refused(Refusal::Stray);
+        return Err(Refusal::Stray);
     }
     if s == 0 {
-        return Answer::Refused(Refusal::Keep);
+        return Err(Refusal::Keep);
     }
-    Answer::Accepted
+    Ok(())
 }
 
 // The verdict on s of a checked table and an equation that was read.
-fn judge_read(t: Table, e: Equation, s: u32) -> Verdict
+fn judge_read(t: Table, e: Equation, s: u32) -> Result<Verdict, Refusal>
     requires { GoodTable t }
     ensures { (q : M.Equation) → Told t.l e q → result ≡ group_call t q s }
 {
     let l = t.l;
-    match check_group(l, s) {
-        Answer::Refused(r) => Verdict::Refused(r),
-        Answer::Accepted => {
-            let n = t.n;
-            let mut list = [0u64; 256];
-            lists::values::load(&t.care, &t.value, n, &mut list);
-            told(&list, n, l, e, s)
-        }
-    }
+    check_group(l, s)?;
+    let n = t.n;
+    let mut list = [0u64; 256];
+    lists::values::load(&t.care, &t.value, n, &mut list);
+    Ok(told(&list, n, l, e, s))
 }
 
 // The verdict on s of a checked table and the equation Xx = the term of the tokens. Inner: not a public call.
-pub fn judge_checked(t: Table, x: u32, ts: &[u16], s: u32) -> Verdict
+pub fn judge_checked(t: Table, x: u32, ts: &[u16], s: u32) -> Result<Verdict, Refusal>
     requires { GoodTable t }
     ensures { result ≡ reason_call t x ts.now s }
 {
-    match operations::read_equation(t.l, x, ts) {
-        Given::Refused(r) => Verdict::Refused(r),
-        Given::Equation(e) => judge_read(t, e, s),
-    }
+    let e = operations::read_equation(t.l, x, ts)?;
+    judge_read(t, e, s)
 }
 
 // Is the group s, bit i - 1 for Xi, in the positive table t after the equation Xx = the term of the tokens, and why?
-pub fn judge(t: Table, x: u32, ts: &[u16], s: u32) -> Verdict
+pub fn judge(t: Table, x: u32, ts: &[u16], s: u32) -> Result<Verdict, Refusal>
     ensures { result ≡ reason_call t x ts.now s }
 {
-    match tables::check(t) {
-        Answer::Refused(r) => Verdict::Refused(r),
-        Answer::Accepted => judge_checked(t, x, ts, s),
-    }
+    tables::check(t)?;
+    judge_checked(t, x, ts, s)
 }

@@ -11,7 +11,7 @@ use Rattle.model.specs.Bindings.{Bindings, Describes}
 use Rattle.model.specs.Calls.{Reaches}
 use Rattle.tables.specs.declared.Table.{Table}
 use Rattle.tables.specs.declared.Refusal.TheVariants as R
-use Rattle.tables.specs.declared.Answer.TheVariants.{Accepted}
+use Rattle.tables.specs.Refusals.{Accepted}
 use Rattle.tables.specs.Refusals.{refusal_number, if_accepted}
 use Rattle.tables.specs.Values.{accepts, GoodTable}
 use Rattle.operations.specs.Outcomes.{groups_of}

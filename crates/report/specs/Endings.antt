@@ -5,7 +5,7 @@ use Rattle.model.specs.Tables.{positive}
 use Rattle.tables.specs.declared.Table.{Table}
 use Rattle.tables.specs.declared.Refusal.{Refusal}
 use Rattle.tables.specs.declared.Refusal.TheVariants as R
-use Rattle.tables.specs.declared.Answer.TheVariants.{Accepted, Refused}
+use Rattle.tables.specs.Refusals.{Accepted, Refused}
 use Rattle.tables.specs.Refusals.{refusal_number}
 use Rattle.tables.specs.Values.{accepts, refuses}
 use Rattle.forms.specs.declared.Extent.TheVariants.{Front}

@@ -13,7 +13,7 @@ ghost use Rattle.report.specs.Reports.{rest_text, report_of, report_bytes};
 use equation_forms::Left;
 use forms::Extent;
 use running::Running;
-use tables::{Answer, Refusal, Table};
+use tables::{Refusal, Table};
 use text::{Pass, Reported};
 
 // The most bytes of an input (most_input).
@@ -86,10 +86,9 @@ fn report_rest(t: Table, q: &[u8], out: &mut [u8]) -> Reported
     ensures answer { result ≡ rest_report t q.now out.old }
     ensures bytes { out.new ≡ fitted (rest_text t q.now) out.old }
 {
-    let l = t.l;
-    match equation_forms::check(Left::Variable, l, q) {
-        Answer::Refused(r) => refuse(r, out),
-        Answer::Accepted => write_fitting(t, q, out),
+    match equation_forms::check(Left::Variable, t.l, q) {
+        Err(r) => refuse(r, out),
+        Ok(()) => write_fitting(t, q, out),
     }
 }
 
@@ -103,13 +102,9 @@ pub fn report(input: &[u8], out: &mut [u8]) -> Reported
         return refuse(Refusal::Torn, out);
     }
     let read = forms::read_table(Extent::Front, input);
-    let answer = read.answer;
-    let t = read.table;
-    match answer {
-        Answer::Refused(r) => refuse(r, out),
-        Answer::Accepted => {
-            let end = forms::front_length(input);
-            report_rest(t, &input[end..], out)
-        }
+    if let Err(r) = read.answer {
+        return refuse(r, out);
     }
+    let end = forms::front_length(input);
+    report_rest(read.table, &input[end..], out)
 }

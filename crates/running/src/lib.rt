@@ -12,10 +12,10 @@ ghost use Rattle.running.specs.States.{state, one_more, started, step_number, af
 ghost use Rattle.running.specs.States.{run_from, run_state, state_number, state_bytes};
 
 use equation_forms::{Cursor, Left};
-use forms::{Extent, Layout, Listed};
+use forms::{Extent, Layout, Sizes};
 use lists::values::Came;
 use operations::Side;
-use tables::{Answer, Answered, Table};
+use tables::{Answered, Refusal, Table};
 
 // A running analysis: the answer of the call that last wrote it, the side as it was given, how many equations were accepted,
 // and the table.
@@ -34,13 +34,13 @@ pub fn start(side: u32, b: &[u8]) -> Running
 {
     let mut list = [0u64; 256];
     match forms::read_list(Layout::Plain, Extent::Whole, b, &mut list) {
-        Listed::Refused(r) => Running {
+        Err(r) => Running {
             code: tables::refusal_number(r),
             side: side,
             applied: 0,
             table: Table::zero(),
         },
-        Listed::Read { l, n } => Running {
+        Ok(Sizes { l, n }) => Running {
             code: 0,
             side: side,
             applied: 0,
@@ -85,19 +85,19 @@ fn accepted(side: u32, applied: u32, t: Table) -> Stepped
 }
 
 // The state after what came of an equation: a refusal leaves the whole state as it was.
-fn answered(s: Running, came: Came, list: &[u64; 256]) -> Stepped
+fn answered(s: Running, came: Result<Came, Refusal>, list: &[u64; 256]) -> Stepped
     requires { Bounded came }
     ensures { (a : AnsweredTable) → Comes s.table.l s.table list.now came a
         → (result.number ≡ answer_number a.answer) × (result.state ≡ after_answer s a) }
 {
     let t = s.table;
     match came {
-        Came::Refused(r) => Stepped {
+        Err(r) => Stepped {
             number: tables::refusal_number(r),
             state: s,
         },
-        Came::Same => accepted(s.side, s.applied, t),
-        Came::Count(n) => accepted(s.side, s.applied, lists::values::table(t.l, n, list)),
+        Ok(Came::Same) => accepted(s.side, s.applied, t),
+        Ok(Came::Count(n)) => accepted(s.side, s.applied, lists::values::table(t.l, n, list)),
     }
 }
 
@@ -193,17 +193,11 @@ fn apply(f: Left, side: u32, t: Table, q: &[u8]) -> Running
     let mut c = equation_forms::first(q);
     while equation_forms::more(c) {
         let a = step(f, s, u, c, q);
-        let answer = a.answer;
-        let v = a.table;
-        match answer {
-            Answer::Refused(r) => {
-                return stopped(tables::refusal_number(r), side, c.k, v);
-            }
-            Answer::Accepted => {
-                u = v;
-                c = equation_forms::next(f, c, q);
-            }
+        u = a.table;
+        if let Err(r) = a.answer {
+            return stopped(tables::refusal_number(r), side, c.k, u);
         }
+        c = equation_forms::next(f, c, q);
     }
     stopped(0, side, c.k, u)
 }
@@ -213,17 +207,13 @@ pub fn run(f: Left, side: u32, b: &[u8], q: &[u8]) -> Running
     ensures { result ≡ run_state f side b.now q.now }
 {
     let read = forms::read_table(Extent::Whole, b);
-    let answer = read.answer;
     let t = read.table;
-    match answer {
-        Answer::Refused(r) => refused(tables::refusal_number(r), side),
-        Answer::Accepted => {
-            let l = t.l;
-            match equation_forms::check(f, l, q) {
-                Answer::Refused(r) => refused(tables::refusal_number(r), side),
-                Answer::Accepted => apply(f, side, t, q),
-            }
-        }
+    if let Err(r) = read.answer {
+        return refused(tables::refusal_number(r), side);
+    }
+    match equation_forms::check(f, t.l, q) {
+        Err(r) => refused(tables::refusal_number(r), side),
+        Ok(()) => apply(f, side, t, q),
     }
 }
 

@@ -15,6 +15,7 @@ const TEXT: usize = 552500;
 fn read_full<R: Read>(from: &mut R, into: &mut [u8]) -> usize
     ensures { result ≤ length into.new }
 {
+    // A `while`: a read gives as many bytes as it likes. `read_exact` does not say how many it read before the input ended.
     let mut done = 0;
     while done < into.len() {
         let n = from.read(&mut into[done..]).unwrap_or(0);

@@ -23,8 +23,8 @@ use Rattle.words.proofs.Codec.{empty_none}
 use Rattle.words.proofs.Positions.{fixed_bit}
 use Rattle.words.proofs.Clearing.{cleared, cleared_length, cleared_word, cleared_first, cleared_other}
 use Rattle.tables.proofs.Tests.{both_true}
-use Rattle.lists.specs.declared.Grown.{Grown}
-use Rattle.lists.specs.declared.Grown.TheVariants.{Count, Full}
+use Rattle.lists.specs.WorkingLists.{Grown}
+use Rattle.lists.specs.WorkingLists.{Count, Full}
 use Rattle.lists.specs.WorkingLists.{Holds, Makes, makes}
 use Rattle.lists.proofs.Holding.{makes_count, makes_full}
 use Rattle.sides.specs.Parts.{append_pieces}

@@ -11,8 +11,6 @@ ghost use Rattle.words.specs.Words.{word};
 ghost use Rattle.lists.specs.WorkingLists.{Holds, OfString, Within, Makes};
 ghost use Rattle.sides.specs.Parts.{matched, append_pieces};
 
-use lists::Grown;
-
 // Moves the entries that match v into `taken`, in order; the others stay, in order. The number moved.
 fn take(list: &mut [u64; 256], n: usize, v: u64, taken: &mut [u64; 256]) -> usize
     requires { n ≤ 256 }
@@ -20,18 +18,14 @@ fn take(list: &mut [u64; 256], n: usize, v: u64, taken: &mut [u64; 256]) -> usiz
     ensures taken { (l : ℕ) → OfString l list.old n v (λ τ t. Holds l taken.new result (matched t τ)) }
     ensures left { (l : ℕ) → OfString l list.old n v (λ τ t. Holds l list.new (n - result) (unmatched t τ)) }
 {
-    // As a slice its length is known.
-    let whole: &[u64] = &*taken;
     let mut k = 0;
-    let mut i = 0;
-    while i < n {
+    for i in 0..n {
         let e = list[i];
         taken[k] = e;
         list[i - k] = e;
         if words::matches(e, v) {
             k += 1;
         }
-        i += 1;
     }
     k
 }
@@ -43,17 +37,12 @@ fn edge_row(list: &[u64; 256], n: usize, v: u64, row: &mut [u64; 256]) -> usize
     ensures few { result ≤ n }
     ensures made { (l : ℕ) → OfString l list.now n v (λ τ t. Holds l row.new result (edges_of t τ)) }
 {
-    // As a slice its length is known.
-    let whole: &[u64] = &*row;
     let mut k = 0;
-    let mut i = 0;
-    while i < n {
-        let e = list[i];
+    for &e in &list[..n] {
         row[k] = e;
         if words::opposed_once(e, v) {
             k += 1;
         }
-        i += 1;
     }
     k
 }
@@ -66,17 +55,17 @@ fn append_fresh(
     z: u64,
     edges: &[u64; 256],
     m: usize,
-) -> Grown
+) -> Option<usize>
     requires { (n ≤ 256) × (l ≤ 32) × (m ≤ 256) }
     ensures within { Within result }
     ensures made { (τ κ : Entries) (s : Trits) → Holds l list.old n τ → Holds l edges.now m κ → length s ≡ l
         → z ≡ word s → Makes l list.new result (append_all τ (fresh κ (s ∷ []))) }
 {
     if words::is_zero(l, z) {
-        return Grown::Count(n);
+        return Some(n);
     }
     if lists::growth::subsumed(edges, m, z) {
-        return Grown::Count(n);
+        return Some(n);
     }
     lists::growth::append(list, n, z)
 }
@@ -91,7 +80,7 @@ fn pieces(
     v: u64,
     edges: &[u64; 256],
     m: usize,
-) -> Grown
+) -> Option<usize>
     requires { (n ≤ 256) × (l ≤ 32) × (m ≤ 256) }
     ensures within { Within result }
     ensures made { (τ κ : Entries) (s t : Trits) → Holds l list.old n τ → Holds l edges.now m κ → length s ≡ l
@@ -99,19 +88,13 @@ fn pieces(
 {
     let mut left = words::fixed(v) & (words::fixed(y) ^ words::LOW);
     let mut k = n;
+    // A `while`: each turn clears the lowest bit left.
     while left != 0 {
         let z = words::opposed(y, v, u64::trailing_zeros(left));
-        match append_fresh(list, k, l, z, edges, m) {
-            Grown::Count(c) => {
-                k = c;
-            }
-            Grown::Full => {
-                return Grown::Full;
-            }
-        }
-        left = left & (left - 1);
+        k = append_fresh(list, k, l, z, edges, m)?;
+        left &= left - 1;
     }
-    Grown::Count(k)
+    Some(k)
 }
 
 // The same with each of the m strings taken, in turn.
@@ -124,7 +107,7 @@ fn pieces_each(
     v: u64,
     edges: &[u64; 256],
     en: usize,
-) -> Grown
+) -> Option<usize>
     requires { (n ≤ 256) × (l ≤ 32) × (m ≤ 256) × (en ≤ 256) }
     ensures within { Within result }
     ensures made { (τ ρ κ : Entries) (t : Trits) → Holds l list.old n τ → Holds l taken.now m ρ
@@ -132,19 +115,10 @@ fn pieces_each(
         → Makes l list.new result (fold (append_pieces κ t) τ ρ) }
 {
     let mut k = n;
-    let mut j = 0;
-    while j < m {
-        match pieces(list, k, l, taken[j], v, edges, en) {
-            Grown::Count(c) => {
-                k = c;
-            }
-            Grown::Full => {
-                return Grown::Full;
-            }
-        }
-        j += 1;
+    for &y in &taken[..m] {
+        k = pieces(list, k, l, y, v, edges, en)?;
     }
-    Grown::Count(k)
+    Some(k)
 }
 
 // One entry v of Change of side, on a list that is the complement of the entries taken away before. On such a list a piece
@@ -156,7 +130,7 @@ fn take_away(
     v: u64,
     taken: &mut [u64; 256],
     edges: &mut [u64; 256],
-) -> Grown
+) -> Option<usize>
     requires { (n ≤ 256) × (l ≤ 32) }
     ensures within { Within result }
     ensures made { OfString l list.old n v (λ τ t.
@@ -164,7 +138,7 @@ fn take_away(
 {
     let m = take(list, n, v, taken);
     if m == 0 {
-        return Grown::Count(n);
+        return Some(n);
     }
     let kept = n - m;
     let k = edge_row(list, kept, v, edges);
@@ -180,32 +154,21 @@ pub fn change_side_lent(
     list: &mut [u64; 256],
     taken: &mut [u64; 256],
     edges: &mut [u64; 256],
-) -> Grown
+) -> Option<usize>
     requires { (tn ≤ 256) × (l ≤ 32) }
     ensures within { Within result }
     ensures made { (τ : Entries) → Holds l t.now tn τ → Makes l list.new result (change_side l τ) }
 {
-    // As a slice its length is known.
-    let whole: &[u64] = &*list;
     list[0] = 0;
     let mut n = 1;
-    let mut i = 0;
-    while i < tn {
-        match take_away(list, n, l, t[i], taken, edges) {
-            Grown::Count(k) => {
-                n = k;
-            }
-            Grown::Full => {
-                return Grown::Full;
-            }
-        }
-        i += 1;
+    for &v in &t[..tn] {
+        n = take_away(list, n, l, v, taken, edges)?;
     }
-    Grown::Count(n)
+    Some(n)
 }
 
 // The same where no room is lent.
-pub fn change_side(t: &[u64; 256], tn: usize, l: u32, list: &mut [u64; 256]) -> Grown
+pub fn change_side(t: &[u64; 256], tn: usize, l: u32, list: &mut [u64; 256]) -> Option<usize>
     requires { (tn ≤ 256) × (l ≤ 32) }
     ensures within { Within result }
     ensures made { (τ : Entries) → Holds l t.now tn τ → Makes l list.new result (change_side l τ) }

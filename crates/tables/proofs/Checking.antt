@@ -19,7 +19,7 @@ use Rattle.words.proofs.Codec.{clean_encodes, string_length, care_lt, value_in}
 use Rattle.tables.specs.declared.Table.{Table}
 use Rattle.tables.specs.declared.Refusal.{Refusal}
 use Rattle.tables.specs.declared.Refusal.TheVariants as R
-use Rattle.tables.specs.declared.Answer.TheVariants.{Accepted, Refused}
+use Rattle.tables.specs.Refusals.{Answer, Accepted, Refused}
 use Rattle.tables.specs.Lists.{zero_entry, padded, list_words, Stores, pairs, strings}
 use Rattle.tables.specs.Values.{most_variables, clean, is_zero, entry_at, all_from, all_clean, zero_past, good_width, table_of}
 use Rattle.tables.specs.Values.{entries_of}
@@ -27,6 +27,11 @@ use Rattle.tables.specs.Values.{check_table, GoodTable}
 use Rattle.tables.proofs.Arrays.{arrays_at, stores_at, stores_length}
 use Rattle.tables.proofs.Values.{stores_good}
 use Rattle.tables.proofs.Tests.{below_full, both_true, both_zero}
+
+-- An answer that is no refusal is accepted.
+pub accepted_unless : (a : Answer) → ((r : Refusal) → ¬ (a ≡ Refused r)) → a ≡ Accepted
+accepted_unless Accepted none = refl
+accepted_unless (Refused r) none = absurd (none r refl)
 
 -- ---- A test of all indexes
 

@@ -1,11 +1,9 @@
 -- The refusals and their numbers (01, "Refusals").
-use Rattle.std.specs.Prelude.{◌≡◌, Bool, false, ◌||◌, List, [], ◌∷◌, ℕ, T, eqb}
+use Rattle.std.specs.Prelude.{◌≡◌, Bool, false, ◌||◌, List, [], ◌∷◌, ℕ, T, eqb, Result, Ok, Err, ⊤}
 use Rattle.tables.specs.declared.Refusal.{Refusal}
 use Rattle.tables.specs.declared.Refusal.TheVariants.{Torn, Width, Entries, Stray, Name, Term, Long, Full, Narrow}
 use Rattle.tables.specs.declared.Refusal.TheVariants.{Unlike}
 use Rattle.tables.specs.declared.Refusal.TheVariants.{Keep, Digit}
-use Rattle.tables.specs.declared.Answer.{Answer}
-use Rattle.tables.specs.declared.Answer.TheVariants.{Accepted, Refused}
 
 -- The number of a refusal, each with 01's word and its condition in the order of 01's table: 1 a length that the sizes do not
 -- give; 2 l outside 1 to 32; 3 more than 256 entries; 4 a bit above l, or a value without care; 5 a variable not 1 to l; 6 no
@@ -25,6 +23,16 @@ refusal_number Narrow = 9
 refusal_number Unlike = 10
 refusal_number Keep = 11
 refusal_number Digit = 12
+
+-- What a call answers: it is accepted, or refused. In the code that is a `Result<(), Refusal>`.
+abbrev pub Answer : Type 0
+Answer = Result ⊤ Refusal
+
+pattern abbrev pub Accepted : Answer
+Accepted = Ok tt
+
+pattern abbrev pub Refused : Refusal → Answer
+Refused r = Err r
 
 -- The number of an answer: 0 where accepted.
 abbrev pub answer_number : Answer → ℕ

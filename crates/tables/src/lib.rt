@@ -3,7 +3,7 @@
 
 ghost use Rattle.std.specs.Prelude.{◌≡◌, cond, [], ◌∷◌, ◌≤◌};
 ghost use Rattle.model.specs.Strings.{stars};
-ghost use Rattle.tables.specs.Refusals.{refusal_number, answer_number};
+ghost use Rattle.tables.specs.Refusals.{refusal_number, answer_number, Accepted};
 ghost use Rattle.tables.specs.Values.{zeros_of, zero_table, accepts, refuses, good_width, check_table, GoodTable};
 ghost use Rattle.tables.specs.Values.{of_width, parts};
 ghost use Rattle.tables.specs.Values.{all_clean, zero_past};
@@ -19,7 +19,7 @@ pub struct Table {
 }
 
 // Why a call is refused.
-#[derive(Clone, Copy)]
+#[derive(Clone, Copy, Debug, PartialEq, Eq)]
 pub enum Refusal {
     Torn,
     Width,
@@ -35,17 +35,10 @@ pub enum Refusal {
     Digit,
 }
 
-// What a call answers.
-#[derive(Clone, Copy)]
-pub enum Answer {
-    Accepted,
-    Refused(Refusal),
-}
-
 // An answer with the table that goes with it.
 #[derive(Clone, Copy)]
 pub struct Answered {
-    pub answer: Answer,
+    pub answer: Result<(), Refusal>,
     pub table: Table,
 }
 
@@ -70,12 +63,12 @@ pub fn refusal_number(r: Refusal) -> u32
 }
 
 // The number of an answer: 0 where accepted.
-pub fn answer_number(a: Answer) -> u32
+pub fn answer_number(a: Result<(), Refusal>) -> u32
     ensures { result ≡ answer_number a }
 {
     match a {
-        Answer::Accepted => 0,
-        Answer::Refused(r) => refusal_number(r),
+        Ok(()) => 0,
+        Err(r) => refusal_number(r),
     }
 }
 
@@ -128,7 +121,7 @@ fn of_zeros(l: u32, n: usize) -> Answered
         return refused(Refusal::Width);
     }
     Answered {
-        answer: Answer::Accepted,
+        answer: Ok(()),
         table: Table {
             l: l,
             n: n,
@@ -143,7 +136,7 @@ pub fn refused(r: Refusal) -> Answered
     ensures { result ≡ refuses r zero_table }
 {
     Answered {
-        answer: Answer::Refused(r),
+        answer: Err(r),
         table: Table::zero(),
     }
 }
@@ -155,12 +148,8 @@ pub fn all_clean<'a>(care: &'a [u32; 256], value: &'a [u32; 256], n: usize, l: u
 {
     let full = words::full(l);
     let mut good = true;
-    let mut i = 0;
-    while i < n {
-        let c = care[i];
-        let v = value[i];
-        good = good & ((c <= full) & ((v & c) == v));
-        i += 1;
+    for (&c, &v) in care[..n].iter().zip(&value[..n]) {
+        good &= (c <= full) & ((v & c) == v);
     }
     good
 }
@@ -171,44 +160,45 @@ fn zero_past<'a>(care: &'a [u32; 256], value: &'a [u32; 256], n: usize) -> bool
     ensures { result ≡ zero_past n care.now value.now }
 {
     let mut some = 0u32;
-    let mut i = n;
-    while i < Table::ENTRIES {
-        let c = care[i];
-        let v = value[i];
-        some = some | (c | v);
-        i += 1;
+    for (&c, &v) in care[n..].iter().zip(&value[n..]) {
+        some |= c | v;
     }
     some == 0
 }
 
 // Does the table value of these parts meet 2, 3 or 4? Inner: not a public call.
-pub fn check_parts<'a>(l: u32, n: usize, care: &'a [u32; 256], value: &'a [u32; 256]) -> Answer
+pub fn check_parts<'a>(
+    l: u32,
+    n: usize,
+    care: &'a [u32; 256],
+    value: &'a [u32; 256],
+) -> Result<(), Refusal>
     ensures answer { result ≡ check_table (parts l n care.now value.now) }
-    ensures good { (result ≡ Answer.Accepted → GoodTable (parts l n care.now value.now))
-        × (GoodTable (parts l n care.now value.now) → result ≡ Answer.Accepted) }
+    ensures good { (result ≡ Accepted → GoodTable (parts l n care.now value.now))
+        × (GoodTable (parts l n care.now value.now) → result ≡ Accepted) }
 {
     // As slices their length is known.
     let cares: &[u32] = care;
     let values: &[u32] = value;
     if !good_width(l) {
-        return Answer::Refused(Refusal::Width);
+        return Err(Refusal::Width);
     }
     if Table::ENTRIES < n {
-        return Answer::Refused(Refusal::Entries);
+        return Err(Refusal::Entries);
     }
     if !all_clean(care, value, n, l) {
-        return Answer::Refused(Refusal::Stray);
+        return Err(Refusal::Stray);
     }
     if !zero_past(care, value, n) {
-        return Answer::Refused(Refusal::Stray);
+        return Err(Refusal::Stray);
     }
-    Answer::Accepted
+    Ok(())
 }
 
 // Does the table value meet 2, 3 or 4?
-pub fn check(t: Table) -> Answer
+pub fn check(t: Table) -> Result<(), Refusal>
     ensures answer { result ≡ check_table t }
-    ensures good { (result ≡ Answer.Accepted → GoodTable t) × (GoodTable t → result ≡ Answer.Accepted) }
+    ensures good { (result ≡ Accepted → GoodTable t) × (GoodTable t → result ≡ Accepted) }
 {
     check_parts(t.l, t.n, &t.care, &t.value)
 }

@@ -17,23 +17,23 @@ use Rattle.model.proofs.Given.{Given, nothing, given}
 use Rattle.words.specs.Words.{set_word}
 use Rattle.tables.specs.declared.Refusal.{Refusal}
 use Rattle.tables.specs.declared.Refusal.TheVariants as R
-use Rattle.tables.specs.declared.Answer.TheVariants as A
+use Rattle.tables.specs.Refusals as A
 use Rattle.tables.specs.Refusals.{member, one_of}
 use Rattle.terms.specs.Checks.{used, parsed, all_named, word_of, Outcome, reads, refuses, if_read, term_or_6}
 use Rattle.terms.specs.Checks.{check_term, most_tokens, check_equation, check_sides, check_answer, checked}
-use Rattle.terms.specs.declared.Reading.{Reading}
-use Rattle.terms.specs.declared.Reading.TheVariants.{Used, NoTerm}
-use Rattle.terms.specs.declared.Checked.{Checked}
-use Rattle.terms.specs.declared.Checked.TheVariants.{Variables, Refused}
+use Rattle.std.specs.Prelude.{Some, None}
+use Rattle.std.specs.Prelude as P
+use Rattle.terms.specs.Checks.{Checked}
+use Rattle.terms.specs.Checks.{Variables, Refused}
 use Rattle.terms.proofs.Reader.{Parsed, read_parsed}
 
 -- the word w of the variables among all n tokens, if the term uses them all
-abbrev pub all_parsed : ℕ → ℕ → Reading → Checked
-all_parsed n w NoTerm = Refused R.Term
-all_parsed n w (Used m) = cond (eqb m n) (Variables w) (Refused R.Term)
+abbrev pub all_parsed : ℕ → ℕ → P.Option ℕ → Checked
+all_parsed n w None = Refused R.Term
+all_parsed n w (Some m) = cond (eqb m n) (Variables w) (Refused R.Term)
 
 -- tokens all named are checked by what the reader answers
-pub term_checked : (l : ℕ) (ts : List ℕ) (a : Reading) → all_named l ts ≡ true → parsed l ts ≡ a
+pub term_checked : (l : ℕ) (ts : List ℕ) (a : P.Option ℕ) → all_named l ts ≡ true → parsed l ts ≡ a
     → all_parsed (length ts) (word_of ts) a ≡ checked l (check_term l ts)
 unfolding parsed used check_term checked term_or_6 whole_term read_term variables ◌>>=◌
 term_checked l ts a n e = rw (← e, n) (go (read_within (length ts) l ts) (read_parsed (length ts) l ts))

@@ -20,8 +20,8 @@ use Rattle.model.specs.Tokens.{read_within, read_term}
 use Rattle.model.proofs.Given.{Given, nothing, given, given_then}
 use Rattle.words.specs.Words.{set_word}
 use Rattle.terms.specs.Checks.{used, parsed, parsed_row, word_of}
-use Rattle.terms.specs.declared.Reading.{Reading}
-use Rattle.terms.specs.declared.Reading.TheVariants.{Used, NoTerm}
+use Rattle.std.specs.Prelude.{Some, None}
+use Rattle.std.specs.Prelude as P
 use Rattle.terms.proofs.Sets as sets
 use Rattle.terms.proofs.TokenScans.{named_is, word_append}
 
@@ -88,13 +88,13 @@ read_parsed (suc d) l (t ∷ s) =
 
 -- what was answered as used is no more than there is
 used_inside : {A : Type 0} {occur : ℕ → A → Bool} {l : ℕ} {s : List ℕ} {o : Option (Read A)} → Given (Parsed occur l s) o
-    → (n : ℕ) → used o ≡ Used n → n ≤ length s
+    → (n : ℕ) → used o ≡ Some n → n ≤ length s
 unfolding used
 used_inside nothing n e = absurd (let z : ◌≡◌ {A = ℕ} 0 1 = cc in omega arith)
 used_inside (given {a} p) n e = let z : a.used ≡ n = cc in omega (arith, p.inside)
 
 -- a term uses no more than there is
-pub parsed_inside : (l n : ℕ) (s : List ℕ) → parsed l s ≡ Used n → n ≤ length s
+pub parsed_inside : (l n : ℕ) (s : List ℕ) → parsed l s ≡ Some n → n ≤ length s
 unfolding parsed read_term
 parsed_inside l n s e = used_inside (read_parsed (length s) l s) n e
 
@@ -103,7 +103,7 @@ part_from : (n : ℕ) (s : List ℕ) → take (length s - n) (drop n s) ≡ drop
 part_from n s = take_all (length s - n) (drop n s) (omega (arith, length-drop n s))
 
 -- a row from n on uses no more than there is from n on
-pub row_inside : (l k n m : ℕ) (s : List ℕ) → parsed_row l k (take (length s - n) (drop n s)) ≡ Used m → m ≤ length s - n
+pub row_inside : (l k n m : ℕ) (s : List ℕ) → parsed_row l k (take (length s - n) (drop n s)) ≡ Some m → m ≤ length s - n
 unfolding parsed_row
 row_inside l k n m s e =
     let r : List ℕ = take (length s - n) (drop n s) in
@@ -139,19 +139,19 @@ deeper (suc d) (suc e) l (t ∷ s) h k =
 -- ---- As the code goes
 
 -- so many tokens more
-abbrev pub plus : ℕ → Reading → Reading
-plus n NoTerm = NoTerm
-plus n (Used m) = Used (n + m)
+abbrev pub plus : ℕ → P.Option ℕ → P.Option ℕ
+plus n None = None
+plus n (Some m) = Some (n + m)
 
 -- a term and then a row
-abbrev pub next : Reading → (ℕ → Reading) → Reading
-next NoTerm f = NoTerm
-next (Used n) f = plus n (f n)
+abbrev pub next : P.Option ℕ → (ℕ → P.Option ℕ) → P.Option ℕ
+next None f = None
+next (Some n) f = plus n (f n)
 
 -- a head and then a row
-abbrev pub one_more : Reading → Reading
-one_more NoTerm = NoTerm
-one_more (Used n) = Used (n + 1)
+abbrev pub one_more : P.Option ℕ → P.Option ℕ
+one_more None = None
+one_more (Some n) = Some (n + 1)
 
 used_followed : (o : Option (Read Term)) (f : ℕ → Option (Read Terms)) → used (followed o f) ≡ next (used o) (λ n. used (f n))
 unfolding used ◌>>=◌
@@ -166,9 +166,9 @@ used_followed (some t) f = go (f t.used)
 used_under : (f : ℕ) (o : Option (Read Terms)) → used (under_head f o) ≡ one_more (used o)
 unfolding used under_head ◌>>=◌
 used_under f none = refl
-used_under f (some r) = ap Used (sym (add-one r.used))
+used_under f (some r) = ap Some (sym (add-one r.used))
 
-pub row_none : (l : ℕ) (s : List ℕ) → Used 0 ≡ parsed_row l 0 s
+pub row_none : (l : ℕ) (s : List ℕ) → Some 0 ≡ parsed_row l 0 s
 unfolding parsed_row read_row used
 row_none l s = refl
 
@@ -184,7 +184,7 @@ parsed_next l k s =
         (drop n s) (le_refl (length (drop n s)))
 
 -- a row of k terms, k not 0, after what its first term answers
-pub row_more : (l k : ℕ) (s : List ℕ) (a : Reading) → ¬ (k ≡ 0) → parsed l s ≡ a
+pub row_more : (l k : ℕ) (s : List ℕ) (a : P.Option ℕ) → ¬ (k ≡ 0) → parsed l s ≡ a
     → next a (λ n. parsed_row l (k - 1) (take (length s - n) (drop n s))) ≡ parsed_row l k s
 row_more l zero s a h e = absurd (h refl)
 row_more l (suc k) s a h e =
@@ -192,18 +192,18 @@ row_more l (suc k) s a h e =
     rw (← e, p, parsed_next l k s) (ap (next (parsed l s)) (λ i n. parsed_row l k (part_from n s i)))
 
 -- a term by its first token
-pub term_none : (l : ℕ) (s : List ℕ) → length s ≡ 0 → NoTerm ≡ parsed l s
+pub term_none : (l : ℕ) (s : List ℕ) → length s ≡ 0 → None ≡ parsed l s
 unfolding parsed read_term read_within used
 term_none l [] h = refl
 term_none l (t ∷ s) h = absurd (omega arith)
 
 pub term_variable : (l : ℕ) (s : List ℕ) (b : Bool) → ¬ (length s ≡ 0) → get_or s 0 0 < first_head → named l (get_or s 0 0) ≡ b
-    → cond b (Used 1) NoTerm ≡ parsed l s
+    → cond b (Some 1) None ≡ parsed l s
 unfolding parsed read_term read_within used
 term_variable l [] b h v n = absurd (h refl)
 term_variable l (t ∷ s) b h v n = rw (lt-ltb t first_head v, n) (go b)
   where
-    go : (b : Bool) → cond b (Used 1) NoTerm ≡ used (cond b (some (record { value = var t; used = 1 })) none)
+    go : (b : Bool) → cond b (Some 1) None ≡ used (cond b (some (record { value = var t; used = 1 })) none)
     go true = refl
     go false = refl
 

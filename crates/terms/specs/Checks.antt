@@ -1,5 +1,7 @@
 -- The checks of an equation handed over by itself (01, "Terms" and "Refusals"; 02, request 2).
-use Rattle.std.specs.Prelude.{Bool, true, not, ◌&&◌, ◌||◌, cond, List, [], ◌∷◌, ℕ, ◌+◌, ◌-◌, ◌^◌, leb, length}
+use Rattle.std.specs.Prelude.{Bool, true, not, ◌&&◌, ◌||◌, cond, List, [], ◌∷◌, ℕ, ◌+◌, ◌-◌, ◌^◌, leb, length, Some, None}
+use Rattle.std.specs.Prelude.{Result, Ok, Err}
+use Rattle.std.specs.Prelude as P
 use Rattle.std.proofs.Math.Option.{Option, some, none}
 use Rattle.std.specs.Int.Bits.{bit_or}
 use Rattle.model.specs.Terms.{Term, var, variables}
@@ -8,26 +10,22 @@ use Rattle.model.specs.Walk.{Sides}
 use Rattle.words.specs.Words.{set_word}
 use Rattle.tables.specs.declared.Refusal.{Refusal}
 use Rattle.tables.specs.declared.Refusal.TheVariants as R
-use Rattle.tables.specs.declared.Answer.{Answer}
-use Rattle.tables.specs.declared.Answer.TheVariants as A
-use Rattle.terms.specs.declared.Reading.{Reading}
-use Rattle.terms.specs.declared.Reading.TheVariants.{Used, NoTerm}
-use Rattle.terms.specs.declared.Checked.{Checked}
-use Rattle.terms.specs.declared.Checked.TheVariants.{Variables, Refused}
+use Rattle.tables.specs.Refusals.{Answer}
+use Rattle.tables.specs.Refusals as A
 
 -- ---- The reader
 
 -- How many tokens were used.
-unfoldable pub used : {A : Type 0} → Option (Read A) → Reading
-used none = NoTerm
-used (some r) = Used r.used
+unfoldable pub used : {A : Type 0} → Option (Read A) → P.Option ℕ
+used none = None
+used (some r) = Some r.used
 
 -- By the term at the front, where one is read.
-unfoldable pub parsed : ℕ → List ℕ → Reading
+unfoldable pub parsed : ℕ → List ℕ → P.Option ℕ
 parsed l ts = used (read_term l ts)
 
 -- By a row of so many terms at the front, where one is read.
-unfoldable pub parsed_row : ℕ → ℕ → List ℕ → Reading
+unfoldable pub parsed_row : ℕ → ℕ → List ℕ → P.Option ℕ
 parsed_row l count ts = used (read_row (read_within (length ts) l) count ts)
 
 -- ---- The tokens
@@ -99,6 +97,16 @@ check_written l (two_terms ss ts) = check_sides l ss ts
 unfoldable pub check_answer : {A : Type 0} → Outcome A → Answer
 check_answer (reads a) = A.Accepted
 check_answer (refuses r) = A.Refused r
+
+-- What the checks of a term say: the set of its variables, or the refusal. In the code that is a `Result<u32, Refusal>`.
+abbrev pub Checked : Type 0
+Checked = Result ℕ Refusal
+
+pattern abbrev pub Variables : ℕ → Checked
+Variables w = Ok w
+
+pattern abbrev pub Refused : Refusal → Checked
+Refused r = Err r
 
 -- Of a term that was read, the word of its variables.
 unfoldable pub checked : ℕ → Outcome Term → Checked

@@ -9,7 +9,7 @@ ghost use Rattle.terms.specs.Checks.{parsed, parsed_row, all_named, word_of, che
 ghost use Rattle.terms.specs.Checks.{check_sides, check_answer};
 ghost use Rattle.terms.specs.EquationKinds.{kind_named, Counted, Told};
 
-use tables::{Answer, Refusal};
+use tables::Refusal;
 
 // A token from here on, with the top bit 1, is a head; one below is the number of a variable.
 pub const FIRST_HEAD: u16 = 32768;
@@ -20,22 +20,8 @@ pub const ARITIES: u16 = 16;
 // The most tokens of an equation.
 const TOKENS: usize = 1024;
 
-// How many tokens a term, or a row of terms, uses; or that there is none.
-#[derive(Clone, Copy)]
-enum Reading {
-    Used(usize),
-    NoTerm,
-}
-
-// What the checks of a term say: the set of its variables, bit i - 1 for Xi, or the refusal.
-#[derive(Clone, Copy)]
-pub enum Checked {
-    Variables(u32),
-    Refused(Refusal),
-}
-
 // How the left variable x of an equation x = t stands in t: t is exactly x, holds x deeper, or does not hold it.
-#[derive(Clone, Copy)]
+#[derive(Clone, Copy, Debug, PartialEq, Eq)]
 pub enum Kind {
     Itself,
     Deeper,
@@ -50,44 +36,38 @@ pub struct Equation {
     pub kind: Kind,
 }
 
-// Reads the term at the front of the tokens: a variable token alone, or a head and its row of arguments.
+// Reads the term at the front of the tokens, a variable token alone, or a head and its row of arguments: how many tokens it
+// uses; none where there is no term.
 #[cycle(read_row_read_term)]
-fn read_term(ts: &[u16], l: u32) -> Reading
+fn read_term(ts: &[u16], l: u32) -> Option<usize>
     ensures { result ≡ parsed l ts.now }
 {
     if ts.len() == 0 {
-        return Reading::NoTerm;
+        return None;
     }
     let t = ts[0];
     if t < FIRST_HEAD {
         let x = t as u32;
         if (0 < x) & (x <= l) {
-            return Reading::Used(1);
+            return Some(1);
         }
-        return Reading::NoTerm;
+        return None;
     }
-    let count = (t % ARITIES) as usize;
-    match read_row(&ts[1..], count, l) {
-        Reading::Used(n) => Reading::Used(n + 1),
-        Reading::NoTerm => Reading::NoTerm,
-    }
+    let n = read_row(&ts[1..], (t % ARITIES) as usize, l)?;
+    Some(n + 1)
 }
 
-// Reads a row of so many terms, one after another.
+// Reads a row of so many terms, one after another: how many tokens they use.
 #[cycle(read_row_read_term)]
-fn read_row(ts: &[u16], count: usize, l: u32) -> Reading
+fn read_row(ts: &[u16], count: usize, l: u32) -> Option<usize>
     ensures { result ≡ parsed_row l count ts.now }
 {
     if count == 0 {
-        return Reading::Used(0);
+        return Some(0);
     }
-    match read_term(ts, l) {
-        Reading::Used(n) => match read_row(&ts[n..], count - 1, l) {
-            Reading::Used(m) => Reading::Used(n + m),
-            Reading::NoTerm => Reading::NoTerm,
-        },
-        Reading::NoTerm => Reading::NoTerm,
-    }
+    let n = read_term(ts, l)?;
+    let m = read_row(&ts[n..], count - 1, l)?;
+    Some(n + m)
 }
 
 // Is every variable among the tokens one of X1 to Xl?
@@ -95,12 +75,9 @@ fn all_named(ts: &[u16], l: u32) -> bool
     ensures { result ≡ all_named l ts.now }
 {
     let mut good = true;
-    let mut i = 0;
-    while i < ts.len() {
-        let t = ts[i];
+    for &t in ts {
         let x = t as u32;
-        good = good & ((FIRST_HEAD <= t) | ((0 < x) & (x <= l)));
-        i += 1;
+        good &= (FIRST_HEAD <= t) | ((0 < x) & (x <= l));
     }
     good
 }
@@ -111,70 +88,57 @@ fn variables(ts: &[u16], l: u32) -> u32
     ensures { result ≡ word_of ts.now }
 {
     let mut set = 0u32;
-    let mut i = 0;
-    while i < ts.len() {
-        let t = ts[i];
+    for &t in ts {
         if t < FIRST_HEAD {
             let x = t as u32;
-            set = set | (1u32 << (x - 1));
+            set |= 1u32 << (x - 1);
         }
-        i += 1;
     }
     set
 }
 
-// One whole term: 5 for a variable not 1 to l anywhere among the tokens, then 6.
-pub fn check_term(l: u32, ts: &[u16]) -> Checked
+// One whole term: 5 for a variable not 1 to l anywhere among the tokens, then 6. The set of its variables, bit i - 1 for Xi.
+pub fn check_term(l: u32, ts: &[u16]) -> Result<u32, Refusal>
     requires { l ≤ 32 }
     ensures { result ≡ checked l (check_term l ts.now) }
 {
     if !all_named(ts, l) {
-        return Checked::Refused(Refusal::Name);
+        return Err(Refusal::Name);
     }
     match read_term(ts, l) {
-        Reading::Used(n) => {
-            if n == ts.len() {
-                Checked::Variables(variables(ts, l))
-            } else {
-                Checked::Refused(Refusal::Term)
-            }
-        }
-        Reading::NoTerm => Checked::Refused(Refusal::Term),
+        Some(n) if n == ts.len() => Ok(variables(ts, l)),
+        _ => Err(Refusal::Term),
     }
 }
 
 // An equation handed over by itself: more than 1024 tokens (7), the left variable (5), tokens in order (5), whole term (6).
-pub fn check_equation(l: u32, x: u32, ts: &[u16]) -> Checked
+pub fn check_equation(l: u32, x: u32, ts: &[u16]) -> Result<u32, Refusal>
     requires { l ≤ 32 }
     ensures { result ≡ checked l (check_equation l x ts.now) }
 {
     if TOKENS < ts.len() {
-        return Checked::Refused(Refusal::Long);
+        return Err(Refusal::Long);
     }
     if !((0 < x) & (x <= l)) {
-        return Checked::Refused(Refusal::Name);
+        return Err(Refusal::Name);
     }
     check_term(l, ts)
 }
 
 // Two terms handed over by themselves: more than 1024 tokens together (7), then the left side (5, 6), then the right (5, 6).
-pub fn check_sides(l: u32, left: &[u16], right: &[u16]) -> Answer
+pub fn check_sides(l: u32, left: &[u16], right: &[u16]) -> Result<(), Refusal>
     requires { l ≤ 32 }
     ensures { result ≡ check_answer (check_sides l left.now right.now) }
 {
     if TOKENS < left.len() {
-        return Answer::Refused(Refusal::Long);
+        return Err(Refusal::Long);
     }
     if TOKENS - left.len() < right.len() {
-        return Answer::Refused(Refusal::Long);
+        return Err(Refusal::Long);
     }
-    match check_term(l, left) {
-        Checked::Refused(r) => Answer::Refused(r),
-        Checked::Variables(_) => match check_term(l, right) {
-            Checked::Refused(r) => Answer::Refused(r),
-            Checked::Variables(_) => Answer::Accepted,
-        },
-    }
+    check_term(l, left)?;
+    check_term(l, right)?;
+    Ok(())
 }
 
 // The kind of the equation of the set of x alone and the set of t's variables, where t has so many tokens: a term of one token

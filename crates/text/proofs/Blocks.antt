@@ -9,8 +9,8 @@ use lib.Seq.{sets}
 use Rattle.tables.specs.declared.Table.{Table}
 use Rattle.tables.specs.declared.Refusal.{Refusal}
 use Rattle.tables.specs.declared.Refusal.TheVariants as R
-use Rattle.tables.specs.declared.Answer.{Answer}
-use Rattle.tables.specs.declared.Answer.TheVariants.{Accepted, Refused}
+use Rattle.tables.specs.Refusals.{Answer}
+use Rattle.tables.specs.Refusals.{Accepted, Refused}
 use Rattle.tables.specs.Refusals.{refusal_number}
 use Rattle.tables.specs.Values.{entries_of, GoodTable}
 use Rattle.tables.proofs.Checking.{good_few, width_most}

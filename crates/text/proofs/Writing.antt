@@ -22,19 +22,6 @@ use Rattle.tables.proofs.Checking.{good_holds}
 use Rattle.codec.proofs.Rows.{sets_append}
 use Rattle.text.specs.Text.{newline, digit, decimal, line, character, entry_text, entries_text}
 
--- ---- Words
-
--- a turn of a copy: what is left to copy is one byte shorter
-pub copy_turn : (out word : List ℕ) (at i : ℕ) → i < length word
-    → sets (set out (at + i) (get_or word i 0)) (at + (i + 1)) (drop (i + 1) word) ≡ sets out (at + i) (drop i word)
-copy_turn out word at i lt =
-    let e : at + (i + 1) ≡ suc (at + i) = omega arith in
-    rw (e, add-one i) (sym (ap (sets out (at + i)) (drop-cons word i 0 lt)))
-
--- After the last byte nothing is left.
-pub copy_end : (out word : List ℕ) (at i : ℕ) → length word ≤ i → out ≡ sets out (at + i) (drop i word)
-copy_end out word at i le = sym (ap (sets out (at + i)) (drop_of_length-le word {i = i} le))
-
 -- ---- Numbers
 
 module _ (n : ℕ) where

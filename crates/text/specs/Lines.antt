@@ -1,8 +1,8 @@
 -- What a run says, as bytes (01, "The program `sharerun`").
 use Rattle.std.specs.Prelude.{List, [], ◌∷◌, ◌++◌, ℕ}
 use Rattle.tables.specs.declared.Table.{Table}
-use Rattle.tables.specs.declared.Answer.{Answer}
-use Rattle.tables.specs.declared.Answer.TheVariants.{Accepted, Refused}
+use Rattle.tables.specs.Refusals.{Answer}
+use Rattle.tables.specs.Refusals.{Accepted, Refused}
 use Rattle.tables.specs.Refusals.{refusal_number}
 use Rattle.tables.specs.Values.{entries_of}
 use Rattle.text.specs.Text.{line, entries_text}

@@ -14,7 +14,7 @@ pub struct Reported {
 }
 
 // A text is measured first, and written only where it fits.
-#[derive(Clone, Copy)]
+#[derive(Clone, Copy, Debug, PartialEq, Eq)]
 pub enum Pass {
     Measure,
     Write,

@@ -16,11 +16,7 @@ pub fn write(out: &mut [u8], at: usize, word: &[u8])
     requires { at + length word.now ≤ length out.old }
     ensures { out.new ≡ sets out.old at word.now }
 {
-    let mut i = 0;
-    while i < word.len() {
-        out[at + i] = word[i];
-        i += 1;
-    }
+    out[at..at + word.len()].copy_from_slice(word);
 }
 
 // How many digits a number below 1000 has.
@@ -108,18 +104,15 @@ fn write_entry(out: &mut [u8], at: usize, l: u32, care: u32, value: u32) -> usiz
 {
     let last = at + l as usize;
     let after = last + 1;
-    let mut here = at;
-    while here < last {
-        let next = here + 1;
-        let i = (here - at) as u32;
-        out[here] = character((care >> i) % 2, (value >> i) % 2);
-        here = next;
+    for i in 0..l {
+        out[at + i as usize] = character((care >> i) % 2, (value >> i) % 2);
     }
     out[last] = b'\n';
     after
 }
 
 // Writes the entries of a table, a line each.
+#[tactic(auto, using(tables::proofs::Checking::good_few))]
 pub fn write_entries(out: &mut [u8], at: usize, t: Table)
     requires { GoodTable t × (at + length (entries_text (entries_of t)) ≤ length out.old) }
     ensures { out.new ≡ sets out.old at (entries_text (entries_of t)) }
@@ -127,9 +120,7 @@ pub fn write_entries(out: &mut [u8], at: usize, t: Table)
     let l = t.l;
     let n = t.n;
     let mut here = at;
-    let mut i = 0;
-    while i < n {
-        here = write_entry(out, here, l, t.care[i], t.value[i]);
-        i += 1;
+    for (&care, &value) in t.care[..n].iter().zip(&t.value[..n]) {
+        here = write_entry(out, here, l, care, value);
     }
 }

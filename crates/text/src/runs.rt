@@ -1,6 +1,6 @@
 // The text of a run, measured or written into a lent output. Inner: not a public call.
 ghost use Rattle.std.specs.Prelude.{◌≡◌, ◌+◌, ◌≤◌, ◌<◌, length};
-ghost use Rattle.tables.specs.declared.Answer.TheVariants.{Refused};
+ghost use Rattle.tables.specs.Refusals.{Refused};
 ghost use Rattle.tables.specs.Values.{GoodTable};
 ghost use Rattle.equation_forms.specs.declared.Left.TheVariants.{Variable};
 ghost use Rattle.equation_forms.specs.EquationForms.{equations_in, GoodSizes};
@@ -12,7 +12,7 @@ ghost use Rattle.text.specs.RunTexts.{most_text, run_text};
 use crate::{Pass, Reported};
 use equation_forms::Left;
 use operations::Side;
-use tables::{Answer, Refusal, Table};
+use tables::{Refusal, Table};
 
 // The lengths of the words `eq `, ` entries ` and ` refused `.
 const EQ: usize = 3;
@@ -62,14 +62,21 @@ fn write_refused(pass: Pass, out: &mut [u8], at: usize, k: u32, r: Refusal, t: T
 }
 
 // The equation numbered k, of its answer and the table that goes with it. The end of the text.
-fn write_equation(pass: Pass, out: &mut [u8], at: usize, k: u32, answer: Answer, t: Table) -> usize
+fn write_equation(
+    pass: Pass,
+    out: &mut [u8],
+    at: usize,
+    k: u32,
+    answer: Result<(), Refusal>,
+    t: Table,
+) -> usize
     requires { (at ≤ most_text) × (k < 1000) × GoodTable t × Room pass out.old at (equation_text k answer t) }
     ensures { (result ≡ at + length (equation_text k answer t))
         × (out.new ≡ passed pass out.old at (equation_text k answer t)) }
 {
     match answer {
-        Answer::Accepted => write_table(pass, out, at, b"eq ", k, t),
-        Answer::Refused(r) => write_refused(pass, out, at, k, r, t),
+        Ok(()) => write_table(pass, out, at, b"eq ", k, t),
+        Err(r) => write_refused(pass, out, at, k, r, t),
     }
 }
 
@@ -97,21 +104,15 @@ pub fn write_run(pass: Pass, t: Table, q: &[u8], out: &mut [u8]) -> Reported
     let mut c = equation_forms::first(q);
     while equation_forms::more(c) {
         let a = running::step(Left::Variable, Side::Positive, u, c, q);
-        let answer = a.answer;
-        let v = a.table;
-        end = write_equation(pass, out, end, c.k as u32 + 1, answer, v);
-        match answer {
-            Answer::Refused(r) => {
-                return Reported {
-                    state: running::stopped(tables::refusal_number(r), 0, c.k, v),
-                    size: end,
-                };
-            }
-            Answer::Accepted => {
-                u = v;
-                c = equation_forms::next(Left::Variable, c, q);
-            }
+        u = a.table;
+        end = write_equation(pass, out, end, c.k as u32 + 1, a.answer, u);
+        if let Err(r) = a.answer {
+            return Reported {
+                state: running::stopped(tables::refusal_number(r), 0, c.k, u),
+                size: end,
+            };
         }
+        c = equation_forms::next(Left::Variable, c, q);
     }
     Reported {
         state: running::stopped(0, 0, c.k, u),

@@ -32,12 +32,13 @@ fn pass(ts: &[u16], at: usize) -> Passed
     let mut i = at;
     let mut need = 1usize;
     let mut set = 0u32;
+    // A `while`: the tokens say where no term is needed any more.
     while 0 < need {
         let t = ts[i];
         if t < terms::FIRST_HEAD {
             let x = t as u32;
-            set = set | (1u32 << (x - 1));
-            need = need - 1;
+            set |= 1u32 << (x - 1);
+            need -= 1;
         } else {
             need = need - 1 + (t % terms::ARITIES) as usize;
         }
@@ -52,9 +53,8 @@ pub fn next(left: &[u16], i: usize, right: &[u16], j: usize) -> Found
     ensures { (l : ℕ) (o : Walked) → Rest l left.now right.now i j o
         → Next l left.now right.now i j o result }
 {
-    let mut a = i;
-    let mut b = j;
-    while a < left.len() {
+    for a in i..left.len() {
+        let b = j + (a - i);
         let s = left[a];
         let t = right[b];
         if s < terms::FIRST_HEAD {
@@ -78,8 +78,6 @@ pub fn next(left: &[u16], i: usize, right: &[u16], j: usize) -> Found
         if s != t {
             return Found::Clash;
         }
-        a += 1;
-        b += 1;
     }
     Found::End
 }
@@ -91,6 +89,7 @@ pub fn clashes(left: &[u16], right: &[u16]) -> bool
 {
     let mut at_left = 0;
     let mut at_right = 0;
+    // A `loop`: the cursors jump past what was found.
     loop {
         match next(left, at_left, right, at_right) {
             Found::Equation { found: _, i, j } => {

@@ -1,5 +1,5 @@
 -- Bits at chosen positions moved together: the loop that does it, and the cut of a string. Assumes nothing.
-use Rattle.std.proofs.Common.{◌≡◌, ℕ, zero, suc, ◌+◌, ◌-◌, ◌*◌, ◌/◌, ◌%◌, ◌^◌, ◌<◌, ◌≤◌, Bool, true, false, cond, eqb, [], ◌∷◌, length, sym, refl, ap, ◌∙◌, subst, ap₂, le_of_suc-le-suc, not-suc-le-zero, mul_assoc, mul_comm, add-mul, pow-suc, suc-ne-zero, div-one, add-one, arith, lit<, shl_lt, shl_exact, shr-shr, eq-eqb, ne_eqb}
+use Rattle.std.proofs.Common.{◌≡◌, ℕ, zero, suc, ◌+◌, ◌-◌, ◌*◌, ◌/◌, ◌%◌, ◌^◌, ◌<◌, ◌≤◌, Bool, true, false, cond, eqb, [], ◌∷◌, length, sym, refl, ap, ◌∙◌, subst, ap₂, le_of_suc-le-suc, not-suc-le-zero, mul_assoc, mul_comm, add-mul, pow-suc, suc-ne-zero, add-one, arith, shl_lt, shl_exact, shr-shr, eq-eqb, ne_eqb}
 use native.Mathlib.Nat.{suc_inj}
 use lib.Arith.{digits_div, digits_mod}
 use lib.Bits.{bit_or, or_shifted_r, or_lt}
@@ -15,14 +15,6 @@ pub record GatheredSoFar (keep w out at i : ℕ) : Type 0 where
   pub small : out < 2 ^ at
   pub few : at ≤ i
   pub whole : gather 32 keep w ≡ gather (32 - i) (keep / 2 ^ i) (w / 2 ^ i) * 2 ^ at + out
-
--- before the first position
-pub gathered_start : (keep w : ℕ) → GatheredSoFar keep w 0 0 0
-gathered_start keep w = record {
-  small = lit< tt;
-  few = omega arith;
-  whole = sym (rw (div-one keep, div-one w) (omega arith));
-}
 
 module _ (keep w out at i : ℕ) (g : GatheredSoFar keep w out at i) (h : i < 32) where
   -- what the later positions give

@@ -309,14 +309,12 @@ fn gathered(keep: u32, w: u32) -> u32
 {
     let mut out = 0u32;
     let mut at = 0u32;
-    let mut i = 0u32;
-    while i < 32 {
+    for i in 0u32..32 {
         let bit = (w >> i) % 2;
         if (keep >> i) % 2 == 1 {
-            out = out | (bit << at);
+            out |= bit << at;
             at += 1;
         }
-        i += 1;
     }
     out
 }

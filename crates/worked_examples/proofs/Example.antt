@@ -31,7 +31,7 @@ use Rattle.words.specs.Words.{set}
 use Rattle.words.proofs.Codec.{sets_long}
 use Rattle.tables.specs.declared.Table.{Table}
 use Rattle.tables.specs.declared.Refusal.TheVariants as R
-use Rattle.tables.specs.declared.Answer.TheVariants.{Accepted}
+use Rattle.tables.specs.Refusals.{Accepted}
 use Rattle.tables.specs.Values.{table_of, good_width, GoodTable}
 use Rattle.terms.specs.Checks.{Written, one_term, two_terms}
 use Rattle.terms.specs.Checks as C

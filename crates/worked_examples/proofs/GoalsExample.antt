@@ -24,7 +24,7 @@ use Rattle.model.proofs.Demand2.{convert_good}
 use Rattle.model.proofs.Demand3.{describes_more, with_variable, equation_reaches}
 use Rattle.model.proofs.Example.{gives, gives_admitted, start, start_table, start_good, start_described}
 use Rattle.words.specs.Words.{set}
-use Rattle.tables.specs.declared.Answer.{Answer}
+use Rattle.tables.specs.Refusals.{Answer}
 use Rattle.tables.specs.Refusals.{if_accepted}
 use Rattle.tables.specs.Values.{check_table, table_of, accepts, made_or_full, good_width}
 use Rattle.tables.proofs.Values.{entries_of_table}
@@ -34,8 +34,8 @@ use Rattle.terms.specs.Checks as C
 use Rattle.conversion.specs.Conversion.{all_below}
 use Rattle.operations.specs.Operations.{convert_call}
 use Rattle.operations.specs.Outcomes.{groups_of}
-use Rattle.questions.specs.declared.Reply.{Reply}
-use Rattle.questions.specs.declared.Reply.TheVariants.{Yes, No, Refused}
+use Rattle.questions.specs.Replies.{Reply}
+use Rattle.questions.specs.Replies.{Yes, No, Refused}
 use Rattle.questions.specs.Replies.{replies, good_sets, ground_call, independent_call}
 use Rattle.demands.specs.Demand3.{Calls, end}
 use Rattle.words.proofs.Codec.{sets_long}

@@ -13,7 +13,7 @@ use Rattle.model.specs.Questions.{every, every_group}
 use Rattle.model.specs.Reasons.{some_group, inside, touches, covers_inside, next, lowest, together, made_up}
 use Rattle.model.proofs.Computing.{strings, growth, equations}
 use Rattle.reasons.specs.declared.Reason.TheVariants.{NoXEntry, NoTEntry, NotMadeUp, NotThere, NoSolution}
-use Rattle.reasons.specs.declared.Verdict.TheVariants.{Kept, Joined, Absent}
+use Rattle.reasons.specs.Verdicts.{Kept, Joined, Absent}
 use Rattle.reasons.specs.Verdicts.{untouched, joins, touched, verdict_of_sets, verdict_of_kind, verdict}
 
 -- The register before the rule.

@@ -34,7 +34,7 @@ use Rattle.model.proofs.Computing.{strings, growth, equations, procedures}
 use Rattle.model.proofs.Demand3.{equation_reaches}
 use Rattle.model.proofs.Example.{gives, gives_admitted, gives_touches, f_of, g_of, sides_of}
 use Rattle.tables.specs.declared.Refusal.TheVariants as R
-use Rattle.tables.specs.declared.Answer.TheVariants.{Accepted, Refused}
+use Rattle.tables.specs.Refusals.{Accepted, Refused}
 use Rattle.tables.specs.Values.{table_of, good_width, zero_table, GoodTable}
 use Rattle.terms.specs.Checks.{Written, one_term, two_terms}
 use Rattle.terms.specs.Checks as C

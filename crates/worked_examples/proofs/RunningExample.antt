@@ -10,7 +10,7 @@ use Rattle.model.specs.Tables.{positive, negative}
 use Rattle.model.specs.Bindings.{Describes}
 use Rattle.model.proofs.Example.{start, start_table, end, end_table}
 use Rattle.tables.specs.declared.Table.{Table}
-use Rattle.tables.specs.declared.Answer.TheVariants.{Accepted}
+use Rattle.tables.specs.Refusals.{Accepted}
 use Rattle.tables.specs.declared.Answered.{Answered}
 use Rattle.tables.specs.Values.{GoodTable}
 use Rattle.terms.specs.Checks.{Written}

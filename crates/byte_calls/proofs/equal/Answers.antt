@@ -1,30 +1,28 @@
 -- A refusal of either reader is returned as it is, the first's first; both tables go to the question on values.
 use mathlib.Core.Path.{◌∙◌}
-use Rattle.questions.specs.declared.Reply.TheVariants.{Refused}
+use Rattle.std.proofs.lemmas.Result.{err_from_is_err_and}
+use Rattle.questions.specs.Replies.{Refused}
 use Rattle.questions.specs.Replies.{equal_call}
 use Rattle.byte_calls.specs.ByteCalls.{after_read, equal_bytes}
-use Rattle.byte_calls.proofs.AfterChecks.{read_refused, read_accepted}
+use Rattle.byte_calls.proofs.AfterChecks.{whole_stops, whole_goes_on}
 use Rattle.byte_calls.proofs.equal.Goals as goal
 
-pub returns-in-Refused : goal.returns-in-Refused
+pub returns-in_err-t : goal.returns-in_err-t
 unfolding equal_bytes
-returns-in-Refused c =
-    read_refused c.args.b.now c.read_table-first.ensures Refused
-    (λ t. after_read c.args.c.now Refused (equal_call t)) c.in-Refused.is
+returns-in_err-t c =
+    let p = err_from_is_err_and c.from_residual.result c.from_residual.ensures.1 in
+    rw (p.1, p.2) (whole_stops c.args.b.now Refused (λ t. after_read c.args.c.now Refused (equal_call t)) c.in_err-t.ensures)
 
-pub returns-in-Refused-other : goal.returns-in-Refused-other
+pub returns-in_err-u : goal.returns-in_err-u
 unfolding equal_bytes
-returns-in-Refused-other c =
-    read_refused c.args.c.now c.read_table-second.ensures Refused (equal_call _)
-    c.in-Refused-other.is
-    ∙ read_accepted c.args.b.now c.read_table-first.ensures Refused
-    (λ t. after_read c.args.c.now Refused (equal_call t)) c.in-Accepted.is
+returns-in_err-u c =
+    let p = err_from_is_err_and c.from_residual-in_err-u.result c.from_residual-in_err-u.ensures.1 in
+    rw (p.1, p.2) (whole_stops c.args.c.now Refused (equal_call _) c.in_err-u.ensures
+    ∙ whole_goes_on c.args.b.now Refused (λ t. after_read c.args.c.now Refused (equal_call t)) c.in_ok-t.ensures)
 
-pub returns-in-Accepted-other : goal.returns-in-Accepted-other
+pub returns : goal.returns
 unfolding equal_bytes
-returns-in-Accepted-other c =
+returns c =
     c.equal.ensures
-    ∙ read_accepted c.args.c.now c.read_table-second.ensures Refused (equal_call _)
-    c.in-Accepted-other.is
-    ∙ read_accepted c.args.b.now c.read_table-first.ensures Refused
-    (λ t. after_read c.args.c.now Refused (equal_call t)) c.in-Accepted.is
+    ∙ whole_goes_on c.args.c.now Refused (equal_call _) c.in_ok-u.ensures
+    ∙ whole_goes_on c.args.b.now Refused (λ t. after_read c.args.c.now Refused (equal_call t)) c.in_ok-t.ensures

@@ -1,33 +1,32 @@
--- The check of the table, then that of the bytes; what passes both is the equation on their tokens.
-use mathlib.Core.Path.{sym, ◌∙◌}
+-- The check of the table, then that of the bytes; what passes both is the call on their tokens.
+use mathlib.Core.Path.{refl, sym}
+use Rattle.std.proofs.lemmas.Result.{err_from_is_err_and}
 use Rattle.byte_calls.proofs.AfterChecks.{turned_as, term_table_refused, term_bytes_refused, term_passed}
 use Rattle.byte_calls.proofs.equation_parts.Goals as goal
 
 pub equation_tokens-requires : goal.equation_tokens-requires
-equation_tokens-requires c = (
-  c.check_parts.ensures.good.0 c.in-Accepted.is,
-  sym c.check_bytes.ensures ∙ c.in-Accepted-check_bytes.is,
-)
+equation_tokens-requires c = (c.in_ok-check_parts.ensures.good.0 refl, sym c.in_ok-check_bytes.ensures)
 
-pub returns-in-Refused : goal.returns-in-Refused
-returns-in-Refused c =
-    record {
+pub returns-in_err-check_parts : goal.returns-in_err-check_parts
+returns-in_err-check_parts c =
+    let p = err_from_is_err_and c.from_residual.result c.from_residual.ensures.1 in
+    rw (p.1, p.2) (record {
       bounded = tt;
-      comes = turned_as (term_table_refused _ _ _ _ (sym c.check_parts.ensures.answer ∙ c.in-Refused.is));
-    }
+      comes = turned_as (term_table_refused _ _ _ _ (sym c.in_err-check_parts.ensures.answer));
+    })
 
-pub returns-in-Refused-check_bytes : goal.returns-in-Refused-check_bytes
-returns-in-Refused-check_bytes c =
-    record {
+pub returns-in_err-check_bytes : goal.returns-in_err-check_bytes
+returns-in_err-check_bytes c =
+    let p = err_from_is_err_and c.from_residual-in_err-check_bytes.result c.from_residual-in_err-check_bytes.ensures.1 in
+    rw (p.1, p.2) (record {
       bounded = tt;
       comes = turned_as
-          (term_bytes_refused _ _ _ _ (sym c.check_parts.ensures.answer ∙ c.in-Accepted.is)
-          (sym c.check_bytes.ensures ∙ c.in-Refused-check_bytes.is));
-    }
+          (term_bytes_refused _ _ _ _ (sym c.in_ok-check_parts.ensures.answer) (sym c.in_err-check_bytes.ensures));
+    })
 
-pub returns-in-Accepted-check_bytes : goal.returns-in-Accepted-check_bytes
-returns-in-Accepted-check_bytes c =
+pub returns : goal.returns
+returns c =
     let g = c.equation_tokens.ensures in record {
       bounded = g.bounded;
-      comes = rw (term_passed _ _ _ _ (sym c.check_bytes.ensures ∙ c.in-Accepted-check_bytes.is)) g.comes;
+      comes = rw (term_passed _ _ _ _ (sym c.in_ok-check_bytes.ensures)) g.comes;
     }

@@ -2,17 +2,18 @@
 use mathlib.Core.Path.{◌≡◌, sym}
 use native.Mathlib.Omega.{arith}
 use borrow.Author.Rules.{rules}
+use lib.Dec.{lit<}
 use lib.ListN.{length}
 use lib.Seq.{length-take-le}
 use Rattle.byte_calls.proofs.AfterChecks.{bytes_few, tokens_taken}
 use Rattle.byte_calls.proofs.equation_tokens.Goals as goal
 
-pub few_tokens-few-requires : goal.few_tokens-few-requires
-few_tokens-few-requires c = (c.if-k-le-FEW.true, omega arith)
+pub tokens_at-few-requires : goal.tokens_at-few-requires
+tokens_at-few-requires c = (lit< tt, (c.if-k-le-FEW.true, omega arith))
 
 pub slice_bounds-equation_parts-end : goal.slice_bounds-equation_parts-end
 slice_bounds-equation_parts-end c =
-    let row = c.few_tokens-few.result in
+    let row = c.tokens_at-few.result in
     let long : length row ≡ 32 = search rules in
     sym (length-take-le _ row (omega (arith, c.if-k-le-FEW.true, long)))
 
@@ -25,12 +26,12 @@ returns-then-k-le-FEW c =
     let g = c.equation_parts.ensures in
     record {
       bounded = g.bounded;
-      comes = rw (sym (tokens_taken 32 b c.few_tokens-few.ensures)) g.comes;
+      comes = rw (sym (tokens_taken 32 b c.tokens_at-few.ensures)) g.comes;
     }
 
 pub tokens_at-row-requires : goal.tokens_at-row-requires
 tokens_at-row-requires c =
-    (bytes_few c.args.term.now c.requires.1, omega arith)
+    (lit< tt, (bytes_few c.args.term.now c.requires.1, omega arith))
 
 pub slice_bounds-equation_parts-end-2 : goal.slice_bounds-equation_parts-end-2
 slice_bounds-equation_parts-end-2 c =

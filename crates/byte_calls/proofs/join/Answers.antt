@@ -2,32 +2,27 @@
 use mathlib.Core.Path.{◌∙◌}
 use Rattle.operations.specs.Operations.{side_of, join_call}
 use Rattle.byte_calls.specs.ByteCalls.{refuses_zero, after_read, join_bytes}
-use Rattle.byte_calls.proofs.AfterChecks.{read_refused, read_accepted}
+use Rattle.byte_calls.proofs.AfterChecks.{whole_stops, whole_goes_on}
 use Rattle.byte_calls.proofs.join.Goals as goal
 
-pub returns-in-Refused : goal.returns-in-Refused
+pub returns-in-Err : goal.returns-in-Err
 unfolding join_bytes
-returns-in-Refused c =
-    c.refused.ensures ∙ read_refused c.args.b.now c.read_table-first.ensures refuses_zero
-    (λ t. after_read c.args.c.now refuses_zero (join_call (side_of c.args.side) t))
-    c.in-Refused.is
+returns-in-Err c =
+    c.refused.ensures ∙ whole_stops c.args.b.now refuses_zero
+    (λ t. after_read c.args.c.now refuses_zero (join_call (side_of c.args.side) t)) c.in-Err.ensures
 
-pub returns-in-Refused-other : goal.returns-in-Refused-other
+pub returns-in-Err-read_whole : goal.returns-in-Err-read_whole
 unfolding join_bytes
-returns-in-Refused-other c =
-    c.refused-in-Refused-other.ensures
-    ∙ read_refused c.args.c.now c.read_table-second.ensures refuses_zero
-    (join_call (side_of c.args.side) _) c.in-Refused-other.is
-    ∙ read_accepted c.args.b.now c.read_table-first.ensures refuses_zero
-    (λ t. after_read c.args.c.now refuses_zero (join_call (side_of c.args.side) t))
-    c.in-Accepted.is
+returns-in-Err-read_whole c =
+    c.refused-in-Err-read_whole.ensures
+    ∙ whole_stops c.args.c.now refuses_zero (join_call (side_of c.args.side) _) c.in-Err-read_whole.ensures
+    ∙ whole_goes_on c.args.b.now refuses_zero
+    (λ t. after_read c.args.c.now refuses_zero (join_call (side_of c.args.side) t)) c.in-Ok.ensures
 
-pub returns-in-Accepted-other : goal.returns-in-Accepted-other
+pub returns-in-Ok-read_whole : goal.returns-in-Ok-read_whole
 unfolding join_bytes
-returns-in-Accepted-other c =
+returns-in-Ok-read_whole c =
     c.join.ensures
-    ∙ read_accepted c.args.c.now c.read_table-second.ensures refuses_zero
-    (join_call (side_of c.args.side) _) c.in-Accepted-other.is
-    ∙ read_accepted c.args.b.now c.read_table-first.ensures refuses_zero
-    (λ t. after_read c.args.c.now refuses_zero (join_call (side_of c.args.side) t))
-    c.in-Accepted.is
+    ∙ whole_goes_on c.args.c.now refuses_zero (join_call (side_of c.args.side) _) c.in-Ok-read_whole.ensures
+    ∙ whole_goes_on c.args.b.now refuses_zero
+    (λ t. after_read c.args.c.now refuses_zero (join_call (side_of c.args.side) t)) c.in-Ok.ensures

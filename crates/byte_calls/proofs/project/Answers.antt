@@ -1,18 +1,17 @@
 -- A refusal of the reader is returned as it is; the table that was read goes to the call on values.
-use mathlib.Core.Path.{◌∙◌}
-use Rattle.operations.specs.Operations.{side_of, projection_call}
+use mathlib.Core.Path.{◌∙◌, sym}
+use Rattle.operations.specs.Operations.{side_of}
+use Rattle.operations.specs.Operations.{projection_call}
 use Rattle.byte_calls.specs.ByteCalls.{refuses_zero, projection_bytes}
-use Rattle.byte_calls.proofs.AfterChecks.{read_refused, read_accepted}
+use Rattle.byte_calls.proofs.AfterChecks.{whole_stops, whole_goes_on}
 use Rattle.byte_calls.proofs.project.Goals as goal
 
-pub returns-in-Refused : goal.returns-in-Refused
+pub returns-in-Err : goal.returns-in-Err
 unfolding projection_bytes
-returns-in-Refused c =
-    c.refused.ensures ∙ read_refused c.args.b.now c.read_table-read.ensures refuses_zero
-    (λ t. projection_call (side_of c.args.side) t c.args.keep) c.in-Refused.is
+returns-in-Err c =
+    c.refused.ensures ∙ whole_stops c.args.b.now refuses_zero (λ t. projection_call (side_of c.args.side) t c.args.keep) c.in-Err.ensures
 
-pub returns-in-Accepted : goal.returns-in-Accepted
+pub returns-in-Ok : goal.returns-in-Ok
 unfolding projection_bytes
-returns-in-Accepted c =
-    c.project.ensures ∙ read_accepted c.args.b.now c.read_table-read.ensures refuses_zero
-    (λ t. projection_call (side_of c.args.side) t c.args.keep) c.in-Accepted.is
+returns-in-Ok c =
+    c.project.ensures ∙ whole_goes_on c.args.b.now refuses_zero (λ t. projection_call (side_of c.args.side) t c.args.keep) c.in-Ok.ensures

@@ -5,6 +5,7 @@ use Prim.Native.Nat.{◌+◌, ◌/◌, ◌≤◌}
 use native.Mathlib.Omega.{arith}
 use borrow.Author.Rules.{rules}
 use borrow.Author.Tests.{leb-true}
+use lib.Dec.{lit<}
 use lib.ListN.{length}
 use lib.Seq.{length-take-le}
 use Rattle.tables.proofs.Tests.{both_true}
@@ -23,21 +24,21 @@ short c =
 few : (c : Start) → length c.args.left.now / 2 + length c.args.right.now / 2 ≤ 1024
 few c = both_bytes_few c.args.left.now c.args.right.now c.requires.1
 
-pub few_tokens-few-requires : goal.few_tokens-few-requires
-few_tokens-few-requires c = ((short (goal.at.few_tokens-few-requires c).Then-k-m).0, omega arith)
+pub tokens_at-few-requires : goal.tokens_at-few-requires
+tokens_at-few-requires c = (lit< tt, ((short (goal.at.tokens_at-few-requires c).Then-k-m).0, omega arith))
 
-pub few_tokens-other-requires : goal.few_tokens-other-requires
-few_tokens-other-requires c = ((short (goal.at.few_tokens-other-requires c).Then-k-m).1, omega arith)
+pub tokens_at-other-requires : goal.tokens_at-other-requires
+tokens_at-other-requires c = (lit< tt, ((short (goal.at.tokens_at-other-requires c).Then-k-m).1, omega arith))
 
 pub slice_bounds-unify_parts-end : goal.slice_bounds-unify_parts-end
 slice_bounds-unify_parts-end c =
-    let row = c.few_tokens-few.result in
+    let row = c.tokens_at-few.result in
     let long : length row ≡ 32 = search rules in
     sym (length-take-le _ row (omega (arith, (short (goal.at.slice_bounds-unify_parts-end c).Then-k-m).0, long)))
 
 pub slice_bounds-unify_parts-end-then-k-m : goal.slice_bounds-unify_parts-end-then-k-m
 slice_bounds-unify_parts-end-then-k-m c =
-    let row = c.few_tokens-other.result in
+    let row = c.tokens_at-other.result in
     let long : length row ≡ 32 = search rules in
     sym (length-take-le _ row (omega (arith, (short (goal.at.slice_bounds-unify_parts-end-then-k-m c).Then-k-m).1, long)))
 
@@ -50,17 +51,17 @@ returns-then-k-m c =
     let g = c.unify_parts.ensures in record {
       bounded = g.bounded;
       comes = rw (
-        sym (tokens_taken 32 a.left.now c.few_tokens-few.ensures),
-        sym (tokens_taken 32 a.right.now c.few_tokens-other.ensures),
+        sym (tokens_taken 32 a.left.now c.tokens_at-few.ensures),
+        sym (tokens_taken 32 a.right.now c.tokens_at-other.ensures),
       )
           g.comes;
     }
 
 pub tokens_at-row-requires : goal.tokens_at-row-requires
-tokens_at-row-requires c = (omega (arith, few (goal.at.tokens_at-row-requires c).Start), omega arith)
+tokens_at-row-requires c = (lit< tt, (omega (arith, few (goal.at.tokens_at-row-requires c).Start), omega arith))
 
 pub tokens_at-others-requires : goal.tokens_at-others-requires
-tokens_at-others-requires c = (omega (arith, few (goal.at.tokens_at-others-requires c).Start), omega arith)
+tokens_at-others-requires c = (lit< tt, (omega (arith, few (goal.at.tokens_at-others-requires c).Start), omega arith))
 
 pub slice_bounds-unify_parts-end-2 : goal.slice_bounds-unify_parts-end-2
 slice_bounds-unify_parts-end-2 c =

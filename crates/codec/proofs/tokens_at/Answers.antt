@@ -1,20 +1,14 @@
-use mathlib.Core.Path.{◌≡◌, refl}
-use native.Mathlib.Omega.{arith}
-use borrow.Author.Rules.{rules}
+use Rattle.std.proofs.Common.{arith, rules}
 use Rattle.codec.specs.Numbers.{rows, with_zeros}
 use Rattle.codec.proofs.Laws.{read_turn}
 use Rattle.codec.proofs.tokens_at.Goals as goal
 
 pub loop-i-init : goal.loop-i-init
 unfolding rows with_zeros
-loop-i-init c = (search rules, refl)
+loop-i-init g c = search rules
 
 pub loop-i-preserved : goal.loop-i-preserved
-loop-i-preserved c =
+loop-i-preserved g c =
     let w = c.loop-i in
     let a = c.args in
-    (search rules, read_turn 1024 a.at w.i _ a.b.now w.out (omega arith) w.invariant.1 c.number_at.ensures)
-
-pub returns : goal.returns
-returns c =
-    let e : c.loop-i.i ≡ c.args.n = omega arith in rw e at c.loop-i.invariant.1
+    read_turn g.row.N a.at w.i _ a.b.now w.out (omega arith) w.invariant c.number_at.ensures

@@ -3,8 +3,10 @@
 use mathlib.Core.Path.{◌≡◌, sym, ap, ◌∙◌}
 use native.Mathlib.Omega.{arith}
 use borrow.Author.Rules.{rules}
+use lib.Dec.{lit<}
 use lib.ListN.{length}
 use lib.Seq.{length-take-le}
+use Rattle.std.proofs.lemmas.Result.{err_from_is_err_and}
 use Rattle.terms.specs.Checks.{Written, check_written, check_answer}
 use Rattle.equation_forms.proofs.Cursors.{tokens_few}
 use Rattle.equation_forms.proofs.EachEquation.{Filled, array_room, one_term_read, left_first, two_terms_read}
@@ -30,7 +32,7 @@ long c = search rules
 pub tokens_at-row-requires : goal.tokens_at-row-requires
 tokens_at-row-requires c =
     let p = c.requires in
-    (rw c.tokens-part.ensures (tokens_few p.1 p.2), omega arith)
+    (lit< tt, (rw c.tokens-part.ensures (tokens_few p.1 p.2), omega arith))
 
 pub slice_bounds-check_equation-end : goal.slice_bounds-check_equation-end
 slice_bounds-check_equation-end c =
@@ -51,17 +53,18 @@ pub slice_bounds-rs-count : goal.slice_bounds-rs-count
 slice_bounds-rs-count c =
     left_first (filled (goal.at.slice_bounds-rs-count c).After-tokens_at-row) c.in-Term.is
 
-pub returns-in-Refused : goal.returns-in-Refused
-returns-in-Refused c =
-    one_term_refused _ _ _ (sym c.check_equation.ensures ∙ c.in-Refused.is)
-    ∙ ap (λ (w : Written). check_answer (check_written c.args.l w))
-    (one_term_read (filled (goal.at.returns-in-Refused c).After-tokens_at-row) c.in-Variable.is)
+pub returns-in_err-check_equation-in-Variable : goal.returns-in_err-check_equation-in-Variable
+returns-in_err-check_equation-in-Variable c =
+    let p = err_from_is_err_and c.from_residual.result c.from_residual.ensures.1 in
+    let h = filled (goal.at.returns-in_err-check_equation-in-Variable c).After-tokens_at-row in
+    rw (p.1, p.2) (one_term_refused _ _ _ (sym c.in_err-check_equation-in-Variable.ensures)
+    ∙ ap (λ (w : Written). check_answer (check_written c.args.l w)) (one_term_read h c.in-Variable.is))
 
-pub returns-in-Variables : goal.returns-in-Variables
-returns-in-Variables c =
-    one_term_accepted _ _ _ (sym c.check_equation.ensures ∙ c.in-Variables.is)
-    ∙ ap (λ (w : Written). check_answer (check_written c.args.l w))
-    (one_term_read (filled (goal.at.returns-in-Variables c).After-tokens_at-row) c.in-Variable.is)
+pub returns-in_ok-check_equation-in-Variable : goal.returns-in_ok-check_equation-in-Variable
+returns-in_ok-check_equation-in-Variable c =
+    let h = filled (goal.at.returns-in_ok-check_equation-in-Variable c).After-tokens_at-row in
+    one_term_accepted _ _ _ (sym c.in_ok-check_equation-in-Variable.ensures)
+    ∙ ap (λ (w : Written). check_answer (check_written c.args.l w)) (one_term_read h c.in-Variable.is)
 
 pub returns-in-Term : goal.returns-in-Term
 unfolding check_written

@@ -19,15 +19,15 @@ pub equate-requires : goal.equate-requires
 equate-requires c =
     (c.loop-e.invariant.0, c.requires.1)
 
-pub returns-in-Full : goal.returns-in-Full
-returns-in-Full c =
-    record {
+pub returns-in_err-count-in-Equation : goal.returns-in_err-count-in-Equation
+returns-in_err-count-in-Equation c =
+    rw c.from_residual.ensures (record {
       within = tt;
       made = λ p r.
           let k = c.loop-e.invariant.1.1 p r in
           let w = equation_told (c.next.ensures _ (some k.others) k.rest) c.in-Equation.is in
-          so_far_full k w c.equate.ensures.made c.in-Full.is;
-    }
+          so_far_full k w c.equate.ensures.made c.in_err-count-in-Equation.was;
+    })
 
 pub loop-e-smaller : goal.loop-e-smaller
 loop-e-smaller c =
@@ -38,11 +38,11 @@ loop-e-smaller c =
 pub loop-e-preserved : goal.loop-e-preserved
 loop-e-preserved c =
     let inv = c.loop-e.invariant in (
-      subst Within c.in-Count.is c.equate.ensures.within,
+      subst Within c.in_ok-count-in-Equation.was c.equate.ensures.within,
       keeps inv.1
           (λ p k.
           let w = equation_told (c.next.ensures _ (some k.others) k.rest) c.in-Equation.is in
-          so_far_step k w c.equate.ensures.made c.in-Count.is),
+          so_far_step k w c.equate.ensures.made c.in_ok-count-in-Equation.was),
     )
 
 pub returns-in-Clash : goal.returns-in-Clash

@@ -5,9 +5,9 @@ use Rattle.operations.specs.Operations.{equation_call}
 use Rattle.operations.proofs.equation.Goals as goal
 
 pub equation_checked-requires : goal.equation_checked-requires
-equation_checked-requires c = c.check.ensures.good.0 c.in-Accepted.is
+equation_checked-requires c = c.check.ensures.good.0 c.in-Ok.is
 
-pub returns-in-Refused : goal.returns-in-Refused
+pub returns-in-Err : goal.returns-in-Err
 unfolding equation_call if_accepted
-returns-in-Refused c =
-    rw (c.refused.ensures, sym c.check.ensures.answer ∙ c.in-Refused.is)
+returns-in-Err c =
+    rw (c.refused.ensures, sym c.check.ensures.answer ∙ c.in-Err.is)

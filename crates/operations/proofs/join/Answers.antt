@@ -7,31 +7,31 @@ use Rattle.operations.proofs.join.Goals as goal
 
 pub join_checked-requires : goal.join_checked-requires
 join_checked-requires c = (
-  c.check.ensures.good.0 c.in-Accepted.is,
-  c.check-in-Accepted.ensures.good.0 c.in-Accepted-check.is,
+  c.check.ensures.good.0 c.in-Ok.is,
+  c.check-in-Ok.ensures.good.0 c.in-Ok-check.is,
   sym c.if-t-u.true,
 )
 
-pub returns-in-Refused : goal.returns-in-Refused
+pub returns-in-Err : goal.returns-in-Err
 unfolding join_call if_accepted
-returns-in-Refused c =
-    rw (c.refused.ensures, sym c.check.ensures.answer ∙ c.in-Refused.is)
+returns-in-Err c =
+    rw (c.refused.ensures, sym c.check.ensures.answer ∙ c.in-Err.is)
 
-pub returns-in-Refused-check : goal.returns-in-Refused-check
+pub returns-in-Err-check : goal.returns-in-Err-check
 unfolding join_call if_accepted
-returns-in-Refused-check c =
+returns-in-Err-check c =
     rw (
-      c.refused-in-Refused-check.ensures,
-      sym c.check.ensures.answer ∙ c.in-Accepted.is,
-      sym c.check-in-Accepted.ensures.answer ∙ c.in-Refused-check.is,
+      c.refused-in-Err-check.ensures,
+      sym c.check.ensures.answer ∙ c.in-Ok.is,
+      sym c.check-in-Ok.ensures.answer ∙ c.in-Err-check.is,
     )
 
 pub returns-then-t-u : goal.returns-then-t-u
 unfolding join_call if_accepted
 returns-then-t-u c =
     rw (
-      sym c.check.ensures.answer ∙ c.in-Accepted.is,
-      sym c.check-in-Accepted.ensures.answer ∙ c.in-Accepted-check.is,
+      sym c.check.ensures.answer ∙ c.in-Ok.is,
+      sym c.check-in-Ok.ensures.answer ∙ c.in-Ok-check.is,
       eq-eqb _ _ c.if-t-u.true,
     )
     c.join_checked.ensures
@@ -41,7 +41,7 @@ unfolding join_call if_accepted
 returns-else-t-u c =
     rw (
       c.refused-else-t-u.ensures,
-      sym c.check.ensures.answer ∙ c.in-Accepted.is,
-      sym c.check-in-Accepted.ensures.answer ∙ c.in-Accepted-check.is,
+      sym c.check.ensures.answer ∙ c.in-Ok.is,
+      sym c.check-in-Ok.ensures.answer ∙ c.in-Ok-check.is,
       ne_eqb _ _ c.if-t-u.false,
     )

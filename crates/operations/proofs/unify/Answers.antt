@@ -5,9 +5,9 @@ use Rattle.operations.specs.Operations.{unify_call}
 use Rattle.operations.proofs.unify.Goals as goal
 
 pub unify_checked-requires : goal.unify_checked-requires
-unify_checked-requires c = c.check.ensures.good.0 c.in-Accepted.is
+unify_checked-requires c = c.check.ensures.good.0 c.in-Ok.is
 
-pub returns-in-Refused : goal.returns-in-Refused
+pub returns-in-Err : goal.returns-in-Err
 unfolding unify_call if_accepted
-returns-in-Refused c =
-    rw (c.refused.ensures, sym c.check.ensures.answer ∙ c.in-Refused.is)
+returns-in-Err c =
+    rw (c.refused.ensures, sym c.check.ensures.answer ∙ c.in-Err.is)

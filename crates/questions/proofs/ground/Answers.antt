@@ -1,30 +1,21 @@
--- The check and the test of the variable come in the order of the definition; the reply is that of `ground_checked`.
-use mathlib.Core.Path.{sym, ◌∙◌}
+-- The check and the test of the variable come in the order of the definition; the answer is that of `ground_checked`.
+use mathlib.Core.Path.{sym}
+use Rattle.std.proofs.lemmas.Result.{err_from_is_err_and}
 use Rattle.tables.specs.Refusals.{if_accepted}
 use Rattle.questions.specs.Replies.{ground_call}
-use Rattle.questions.proofs.Tests.{named_range}
+use Rattle.questions.proofs.Tests.{reply_is}
 use Rattle.questions.proofs.ground.Goals as goal
 
-pub ground_checked-requires : goal.ground_checked-requires
-ground_checked-requires c =
-    let r = named_range _ _ c.if-x-t.true in
-    (c.check.ensures.good.0 c.in-Accepted.is, r.0, r.1)
-
-pub returns-in-Refused : goal.returns-in-Refused
+pub returns-in_err-check : goal.returns-in_err-check
 unfolding ground_call if_accepted
-returns-in-Refused c = rw (sym c.check.ensures.answer ∙ c.in-Refused.is)
+returns-in_err-check c =
+    let p = err_from_is_err_and c.from_residual.result c.from_residual.ensures.1 in
+    rw (p.1, p.2, sym c.in_err-check.ensures.answer)
 
-pub returns-then-x-t : goal.returns-then-x-t
+pub returns-then-not-x-t : goal.returns-then-not-x-t
 unfolding ground_call if_accepted
-returns-then-x-t c =
-    rw (
-      c.replied.ensures,
-      c.ground_checked.ensures,
-      sym c.check.ensures.answer ∙ c.in-Accepted.is,
-      c.if-x-t.true,
-    )
+returns-then-not-x-t c = rw (sym c.in_ok-check.ensures.answer, c.if-not-x-t.true)
 
-pub returns-else-x-t : goal.returns-else-x-t
+pub returns : goal.returns
 unfolding ground_call if_accepted
-returns-else-x-t c =
-    rw (sym c.check.ensures.answer ∙ c.in-Accepted.is, c.if-x-t.false)
+returns c = rw (c.ground_checked.ensures, sym c.in_ok-check.ensures.answer, c.if-not-x-t.false, reply_is)

@@ -16,7 +16,6 @@ use Rattle.words.proofs.Codec.{set_word_or}
 use Rattle.lists.specs.WorkingLists.{Holds}
 use Rattle.reasons.specs.Verdicts.{joins, touched}
 use Rattle.reasons.proofs.Searching.{made_up_word}
-use Rattle.reasons.proofs.Verdicts.{found_past, found_at}
 use Rattle.reasons.proofs.joined.Goals as goal
 use Rattle.reasons.proofs.joined.Goals.{After-together}
 
@@ -33,39 +32,41 @@ made_up_test {l} k g τ whole is_r is_s e = sym (made_up_word l k g τ whole) �
 both_found : (c : After-together) → let a = c.args in
     (l : ℕ) (τ : Entries) (x t k : Bits) → Holds l a.list.now a.n τ → length x ≡ l → length t ≡ l → length k ≡ l
     → a.mx ≡ set_word x → a.mt ≡ set_word t → a.s ≡ set_word k → (b : Bool) → eqb c.together.result a.s ≡ b
-    → joins (some c.lowest-i.result) (some c.lowest-j.result) b ≡ touched l x t τ k
+    → joins (some c.in-Some.i) (some c.in-Some-lowest.j) b ≡ touched l x t τ k
 unfolding touched
 both_found c l τ x t k h nx nt nk is_x is_t is_s b e =
     let m = c.together.ensures l τ k (or x t) h nk (or_length x t l nx nt) is_s (or_word x t is_x is_t) in
     rw (
-      sym (c.lowest-i.ensures.entry l τ k x h nk nx is_s is_x) ∙ found_at c.lowest-i.ensures.bound c.if-i-n.false,
-      sym (c.lowest-j.ensures.entry l τ k t h nk nt is_s is_t) ∙ found_at c.lowest-j.ensures.bound c.if-j-n.false,
+      sym (c.in-Some.ensures.entry l τ k x h nk nx is_s is_x),
+      sym (c.in-Some-lowest.ensures.entry l τ k t h nk nt is_s is_t),
       made_up_test k (or x t) τ nk m is_s e,
     )
 
-pub returns-then-i-n : goal.returns-then-i-n
+pub returns-in_default : goal.returns-in_default
 unfolding touched joins
-returns-then-i-n c =
+returns-in_default c =
     λ l τ x t k h nx nt nk is_x is_t is_s.
-    rw (sym (c.lowest-i.ensures.entry l τ k x h nk nx is_s is_x) ∙ found_past c.if-i-n.true)
+    rw (sym (c.in_default.ensures.entry l τ k x h nk nx is_s is_x))
 
-pub returns-then-j-n : goal.returns-then-j-n
+pub returns-in_default-lowest : goal.returns-in_default-lowest
 unfolding touched joins
-returns-then-j-n c =
+returns-in_default-lowest c =
     λ l τ x t k h nx nt nk is_x is_t is_s.
     rw (
-      sym (c.lowest-i.ensures.entry l τ k x h nk nx is_s is_x) ∙ found_at c.lowest-i.ensures.bound c.if-i-n.false,
-      sym (c.lowest-j.ensures.entry l τ k t h nk nt is_s is_t) ∙ found_past c.if-j-n.true,
+      sym (c.in-Some.ensures.entry l τ k x h nk nx is_s is_x),
+      sym (c.in_default-lowest.ensures.entry l τ k t h nk nt is_s is_t),
     )
 
 pub returns-then-together-s : goal.returns-then-together-s
 unfolding joins
 returns-then-together-s c =
     λ l τ x t k h nx nt nk is_x is_t is_s.
-    both_found (goal.at.returns-then-together-s c).After-together l τ x t k h nx nt nk is_x is_t is_s false (ne_eqb _ _ c.if-together-s.true)
+    both_found (goal.at.returns-then-together-s c).After-together l τ x t k h nx nt nk is_x is_t is_s false
+    (ne_eqb _ _ c.if-together-s.true)
 
 pub returns : goal.returns
 unfolding joins
 returns c =
     λ l τ x t k h nx nt nk is_x is_t is_s.
-    both_found (goal.at.returns c).After-together l τ x t k h nx nt nk is_x is_t is_s true (eq-eqb _ _ c.if-together-s.false)
+    both_found (goal.at.returns c).After-together l τ x t k h nx nt nk is_x is_t is_s true
+    (eq-eqb _ _ c.if-together-s.false)

@@ -1,12 +1,12 @@
 -- The table's check comes first; the verdict is that of `judge_checked`.
-use mathlib.Core.Path.{sym, ◌∙◌}
+use mathlib.Core.Path.{sym}
+use Rattle.std.proofs.lemmas.Result.{err_from_is_err_and}
 use Rattle.tables.specs.Refusals.{if_accepted}
 use Rattle.reasons.specs.Verdicts.{reason_call}
 use Rattle.reasons.proofs.judge.Goals as goal
 
-pub judge_checked-requires : goal.judge_checked-requires
-judge_checked-requires c = c.check.ensures.good.0 c.in-Accepted.is
-
-pub returns-in-Refused : goal.returns-in-Refused
+pub returns-in_err-check : goal.returns-in_err-check
 unfolding reason_call if_accepted
-returns-in-Refused c = rw (sym c.check.ensures.answer ∙ c.in-Refused.is)
+returns-in_err-check c =
+    let p = err_from_is_err_and c.from_residual.result c.from_residual.ensures.1 in
+    rw (p.1, p.2, sym c.in_err-check.ensures.answer)

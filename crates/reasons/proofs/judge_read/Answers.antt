@@ -1,5 +1,6 @@
 -- The group's checks come first; then the loaded list is the table's, and s is the word of a set of l variables.
-use mathlib.Core.Path.{sym, ◌∙◌}
+use mathlib.Core.Path.{sym}
+use Rattle.std.proofs.lemmas.Result.{err_from_is_err_and}
 use Rattle.tables.specs.Refusals.{if_accepted}
 use Rattle.words.proofs.Codec.{set_length, set_word_set}
 use Rattle.operations.proofs.Checked.{good_few, good_wide, good_list}
@@ -16,17 +17,18 @@ load-requires c = good_few c.requires
 pub told-requires : goal.told-requires
 told-requires c = let g = c.requires in (good_few g, good_wide g)
 
-pub returns-in-Refused : goal.returns-in-Refused
+pub returns-in_err-check_group : goal.returns-in_err-check_group
 unfolding group_call if_accepted
-returns-in-Refused c =
+returns-in_err-check_group c =
     λ q t.
-    rw (sym c.check_group.ensures ∙ c.in-Refused.is)
+    let p = err_from_is_err_and c.from_residual.result c.from_residual.ensures.1 in
+    rw (p.1, p.2, sym c.in_err-check_group.ensures)
 
-pub returns-in-Accepted : goal.returns-in-Accepted
+pub returns : goal.returns
 unfolding group_call if_accepted
-returns-in-Accepted c =
+returns c =
     λ q t.
-    let ok = sym c.check_group.ensures ∙ c.in-Accepted.is in
+    let ok = sym c.in_ok-check_group.ensures in
     rw ok
     (c.told.ensures _ q _ (good_list c.requires c.load.ensures) t (set_length _ _)
     (sym (set_word_set _ _ (group_below c.args.t.l c.args.s ok).0)))

@@ -12,12 +12,12 @@ check-requires c = let most = width_most _ c.requires.width in omega (arith, mos
 
 pub write_fitting-requires : goal.write_fitting-requires
 write_fitting-requires c =
-    let checked = sym c.check.ensures ∙ c.in-Accepted.is in
+    let checked = sym c.check.ensures ∙ c.in-Ok.is in
     ((equations_passed Variable c.args.t.l c.args.q.now checked).sizes, c.requires)
 
-pub returns-in-Refused : goal.returns-in-Refused
-returns-in-Refused c =
-    let checked = sym c.check.ensures ∙ c.in-Refused.is in
+pub returns-in-Err : goal.returns-in-Err
+returns-in-Err c =
+    let checked = sym c.check.ensures ∙ c.in-Err.is in
     let same = rest_refused c.args.t c.args.q.now checked in
     let reported = c.refuse.ensures in
     record {
@@ -25,9 +25,9 @@ returns-in-Refused c =
       bytes = rw same.1 at reported.bytes;
     }
 
-pub returns-in-Accepted : goal.returns-in-Accepted
-returns-in-Accepted c =
-    let checked = sym c.check.ensures ∙ c.in-Accepted.is in
+pub returns-in-Ok : goal.returns-in-Ok
+returns-in-Ok c =
+    let checked = sym c.check.ensures ∙ c.in-Ok.is in
     let same = rest_goes c.args.t c.args.q.now checked in
     let reported = c.write_fitting.ensures in
     record {

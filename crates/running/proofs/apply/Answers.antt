@@ -1,5 +1,6 @@
 use mathlib.Core.Path.{◌∙◌}
 use native.Mathlib.Omega.{arith}
+use Rattle.tables.proofs.Checking.{accepted_unless}
 use Rattle.running.proofs.Applying.{so_far_start, so_far_end, so_far_stop, so_far_step}
 use Rattle.running.proofs.apply.Goals as goal
 
@@ -20,12 +21,12 @@ stopped-requires c =
     let on = c.loop-f.invariant.on in
     omega (arith, on.within, on.all, on.sizes.few)
 
-pub returns-in-Refused : goal.returns-in-Refused
-returns-in-Refused c =
+pub returns-in-Err : goal.returns-in-Err
+returns-in-Err c =
     let a = c.args in
     rw (c.stopped.ensures, c.refusal_number.ensures)
     (so_far_stop c.loop-f.invariant (c.more.ensures.0 c.loop-f-test.true)
-    c.side_numbered-s.ensures c.step-a.ensures c.in-Refused.is)
+    c.side_numbered-s.ensures c.step-a.ensures c.in-Err.is)
 
 pub next-c-requires : goal.next-c-requires
 next-c-requires c =
@@ -41,7 +42,7 @@ loop-f-preserved c =
     let a = c.args in
     rw c.next-c.ensures
     (so_far_step c.loop-f.invariant (c.more.ensures.0 c.loop-f-test.true)
-    c.side_numbered-s.ensures c.step-a.ensures c.in-Accepted.is)
+    c.side_numbered-s.ensures c.step-a.ensures (accepted_unless _ c.in_default.not-Err))
 
 pub stopped-requires-2 : goal.stopped-requires-2
 stopped-requires-2 c =

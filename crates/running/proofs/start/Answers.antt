@@ -10,11 +10,11 @@ use Rattle.forms.specs.TableForms.{read_table}
 use Rattle.forms.proofs.Listing.{ReadAs, reads_refused, reads_list, read_few}
 use Rattle.running.specs.States.{state, started}
 use Rattle.running.proofs.start.Goals as goal
-use Rattle.running.proofs.start.Goals.{In-Read}
+use Rattle.running.proofs.start.Goals.{In-Ok}
 
 -- the list that was read
-listing : (c : In-Read) → ReadAs c.read_list.new.list c.in-Read.l c.in-Read.n (read_table Whole c.args.b.now)
-listing c = reads_list c.read_list.ensures c.in-Read.is
+listing : (c : In-Ok) → ReadAs c.read_list.new.list c.in-Ok.field-0.l c.in-Ok.field-0.n (read_table Whole c.args.b.now)
+listing c = reads_list c.read_list.ensures c.in-Ok.is
 
 -- the state of an answer that is the reading's
 started_as : (side : ℕ) (b : List ℕ) {a : Answered} → a ≡ read_table Whole b
@@ -23,16 +23,16 @@ unfolding started
 started_as side b e = ap (λ (x : Answered). state (answer_number x.answer) side 0 x.table) e
 
 pub table-requires : goal.table-requires
-table-requires c = read_few (listing (goal.at.table-requires c).In-Read)
+table-requires c = read_few (listing (goal.at.table-requires c).In-Ok)
 
-pub returns-in-Refused : goal.returns-in-Refused
-returns-in-Refused c =
+pub returns-in-Err : goal.returns-in-Err
+returns-in-Err c =
     let a = c.args in
     rw (c.refusal_number.ensures, c.zero.ensures)
-    (started_as a.side a.b.now (reads_refused c.read_list.ensures c.in-Refused.is))
+    (started_as a.side a.b.now (reads_refused c.read_list.ensures c.in-Err.is))
 
-pub returns-in-Read : goal.returns-in-Read
-returns-in-Read c =
+pub returns-in-Ok : goal.returns-in-Ok
+returns-in-Ok c =
     let a = c.args in
-    let m = listing (goal.at.returns-in-Read c).In-Read in
+    let m = listing (goal.at.returns-in-Ok c).In-Ok in
     started_as a.side a.b.now (ap accepts (c.table.ensures m.entries m.held) ∙ sym m.is)

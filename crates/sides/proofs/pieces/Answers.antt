@@ -24,9 +24,9 @@ opposed-z-requires c =
     let lp = c.loop-left in
     trailing_lt 64 32 lp.left lp.invariant.0 (omega arith) (λ z. absurd (omega (arith, z)))
 
-pub returns-in-Full : goal.returns-in-Full
-returns-in-Full c =
-    let lp = c.loop-left in record {
+pub returns-in_err-k : goal.returns-in_err-k
+returns-in_err-k c =
+    let lp = c.loop-left in rw c.from_residual.ensures (record {
       within = tt;
       made = λ τ κ s t h g d e y v.
           let w = lp.invariant.2 τ κ s t h g d e y v in
@@ -35,8 +35,8 @@ returns-in-Full c =
           let at = pieces_open w small some in
           let z = c.opposed-z.ensures.strings s t (d ∙ sym e) (omega (arith, d)) y v (not-true _ at.0) at.1 in
           let made = c.append_fresh.ensures.made _ κ _ w.held g (opposed_length _ t s ∙ d) z in
-          rw (pieces_stop w small some made c.in-Full.is) stops;
-    }
+          rw (pieces_stop w small some made c.in_err-k.was) stops;
+    })
 
 pub loop-left-smaller : goal.loop-left-smaller
 loop-left-smaller c =
@@ -46,7 +46,7 @@ loop-left-smaller c =
 pub loop-left-preserved : goal.loop-left-preserved
 loop-left-preserved c =
     let lp = c.loop-left in
-    let got = c.in-Count.is in (
+    let got = c.in_ok-k.was in (
       omega (arith, and_le_l lp.left (lp.left - 1)),
       within_count c.append_fresh.ensures.within got,
       λ τ κ s t h g d e y v.

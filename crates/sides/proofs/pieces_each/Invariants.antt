@@ -1,6 +1,6 @@
--- Loop (`SoFar`): the pieces of the strings before j are appended, and to go on with the others gives the whole.
+-- Loop (`SoFar`): the pieces of the strings before y are appended, and to go on with the others gives the whole.
 use mathlib.Core.Path.{◌≡◌}
-use Prim.Native.Nat.{◌-◌, ◌≤◌}
+use Prim.Native.Nat.{◌≤◌}
 use lib.ListN.{length}
 use Rattle.model.specs.Strings.{Trits}
 use Rattle.model.specs.Growth.{fold, Entries}
@@ -10,10 +10,7 @@ use Rattle.lists.proofs.SoFar.{SoFar, Any}
 use Rattle.sides.specs.Parts.{append_pieces}
 use Rattle.sides.proofs.pieces_each.Given as goal
 
-abbrev pub invariant-loop-j : goal.invariant-loop-j
-invariant-loop-j l = (l.j ≤ l.m) × (l.k ≤ 256)
-    × ((τ ρ κ : Entries) (t : Trits) → Holds l.l l.initial.list l.n τ → Holds l.l l.taken l.m ρ → Holds l.l l.edges l.en κ → length t ≡ l.l → l.v ≡ word t
-    → SoFar l.l (append_pieces κ t) ρ (fold (append_pieces κ t) τ ρ) Any l.list l.k l.j)
-
-abbrev pub decreases-loop-j : goal.decreases-loop-j
-decreases-loop-j l = l.m - l.j
+abbrev pub invariant-loop-y : goal.invariant-loop-y
+invariant-loop-y l = (l.k ≤ 256)
+    × ((τ ρ κ : Entries) (t : Trits) → Holds l.l l.initial.list l.n τ → Holds l.l l.taken l.m ρ → Holds l.l l.edges l.en κ
+    → length t ≡ l.l → l.v ≡ word t → SoFar l.l (append_pieces κ t) ρ (fold (append_pieces κ t) τ ρ) Any l.list l.k l.y-index)

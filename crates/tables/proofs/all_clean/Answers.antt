@@ -1,20 +1,27 @@
+use borrow.Author.Rules.{rules}
 use native.Mathlib.Omega.{arith}
-use Rattle.tables.specs.Values.{all_clean}
-use Rattle.tables.proofs.Scans.{all_scan, scan_start, scan_turn, scan_end}
+use Rattle.tables.specs.Values.{clean, all_clean}
+use Rattle.tables.proofs.Zipped.{left_init, left_turn, left_end}
 use Rattle.tables.proofs.Checking.{clean_hit}
 use Rattle.tables.proofs.all_clean.Goals as goal
 
-pub loop-i-init : goal.loop-i-init
+pub loop-c-init : goal.loop-c-init
 unfolding all_clean
-loop-i-init c = (omega arith, scan_start all_scan _ _)
+loop-c-init c = left_init (clean c.args.l) c.args.care.now c.args.value.now 0 c.args.n
 
-pub loop-i-preserved : goal.loop-i-preserved
-loop-i-preserved c =
-    let lp = c.loop-i in (
-      omega arith,
-      scan_turn all_scan _ _ lp.good lp.i _ lp.invariant.1 (omega arith) _
-          (clean_hit _ _ _ _ c.full-full.ensures),
-    )
+pub loop-c-preserved : goal.loop-c-preserved
+loop-c-preserved c =
+    let lp = c.loop-c in
+    let a = c.args in
+    let s = c.into_iter-c-iterator.result in
+    left_turn (clean a.l) a.care.now a.value.now 0 a.n lp.yielded s lp.c-iterator c.next.new.self lp.good lp.invariant
+    (search rules) (search rules) lp.yielded_by c.next.ensures.steps _ c.in-Some.is _
+    (clean_hit _ _ _ _ c.full-full.ensures)
 
 pub returns : goal.returns
-returns c = let lp = c.loop-i in scan_end all_scan _ _ lp.good lp.i _ lp.invariant.1 (omega arith)
+returns c =
+    let lp = c.loop-c in
+    let a = c.args in
+    let s = c.into_iter-c-iterator.result in
+    left_end (clean a.l) a.care.now a.value.now 0 a.n lp.yielded s lp.c-iterator c.next.new.self lp.good lp.invariant
+    (search rules) (search rules) lp.yielded_by c.next.ensures.steps (omega arith) (omega arith) c.in-None.is

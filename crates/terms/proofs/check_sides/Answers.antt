@@ -3,19 +3,15 @@ use mathlib.Core.Path.{◌≡◌, sym, ap}
 use Prim.Native.Nat.{◌+◌, ◌≤◌}
 use native.Mathlib.Omega.{arith}
 use lib.ListN.{length}
-use Rattle.model.specs.Terms.{Term}
-use Rattle.terms.specs.Checks.{check_term, reads, check_answer}
+use Rattle.std.proofs.lemmas.Result.{err_from_is_err_and}
+use Rattle.terms.specs.Checks.{check_answer}
 use Rattle.terms.proofs.Checking.{checked_reads, checked_refuses, sides_long, sides_left, sides_right, sides_read}
 use Rattle.terms.proofs.check_sides.Goals as goal
-use Rattle.terms.proofs.check_sides.Goals.{Else-left-right, In-Variables}
+use Rattle.terms.proofs.check_sides.Goals.{Else-left-right}
 
 -- the tokens are few enough
 few : (c : Else-left-right) → length c.args.left.now + length c.args.right.now ≤ 1024
 few c = omega (arith, c.if-left-gt-TOKENS.false, c.if-left-right.false)
-
--- the left term, from where it was read
-left_read : (c : In-Variables) → (u : Term) × (check_term c.args.l c.args.left.now ≡ reads u)
-left_read c = let o = checked_reads _ _ _ (sym c.in-Variables.ensures) in (o.0, o.1)
 
 pub returns-then-left-gt-TOKENS : goal.returns-then-left-gt-TOKENS
 returns-then-left-gt-TOKENS c = sides_long _ _ _ (omega (arith, c.if-left-gt-TOKENS.true))
@@ -23,20 +19,22 @@ returns-then-left-gt-TOKENS c = sides_long _ _ _ (omega (arith, c.if-left-gt-TOK
 pub returns-then-left-right : goal.returns-then-left-right
 returns-then-left-right c = sides_long _ _ _ (omega (arith, c.if-left-gt-TOKENS.false, c.if-left-right.true))
 
-pub returns-in-Refused : goal.returns-in-Refused
-returns-in-Refused c =
-    sides_left _ _ _ (few (goal.at.returns-in-Refused c).Else-left-right)
-    (checked_refuses _ _ _ (sym c.in-Refused.ensures))
+pub returns-in_err-check_term : goal.returns-in_err-check_term
+returns-in_err-check_term c =
+    let p = err_from_is_err_and c.from_residual.result c.from_residual.ensures.1 in
+    rw (p.1, p.2) (sides_left _ _ _ (few (goal.at.returns-in_err-check_term c).Else-left-right)
+    (checked_refuses _ _ _ (sym c.in_err-check_term.ensures)))
 
-pub returns-in-Refused-check_term : goal.returns-in-Refused-check_term
-returns-in-Refused-check_term c =
-    let at = goal.at.returns-in-Refused-check_term c in
-    sides_right _ _ _ (few at.Else-left-right) (left_read at.In-Variables).1
-    (checked_refuses _ _ _ (sym c.in-Refused-check_term.ensures))
+pub returns-in_err-check_term-2 : goal.returns-in_err-check_term-2
+returns-in_err-check_term-2 c =
+    let p = err_from_is_err_and c.from_residual-in_err-check_term-2.result c.from_residual-in_err-check_term-2.ensures.1 in
+    let left = checked_reads _ _ _ (sym c.in_ok-check_term.ensures) in
+    rw (p.1, p.2) (sides_right _ _ _ (few (goal.at.returns-in_err-check_term-2 c).Else-left-right) left.1
+    (checked_refuses _ _ _ (sym c.in_err-check_term-2.ensures)))
 
-pub returns-in-Variables-check_term : goal.returns-in-Variables-check_term
+pub returns : goal.returns
 unfolding check_answer
-returns-in-Variables-check_term c =
-    let at = goal.at.returns-in-Variables-check_term c in
-    let o = checked_reads _ _ _ (sym c.in-Variables-check_term.ensures) in
-    sym (ap check_answer (sides_read _ _ _ (few at.Else-left-right) (left_read at.In-Variables).1 o.1))
+returns c =
+    let left = checked_reads _ _ _ (sym c.in_ok-check_term.ensures) in
+    let right = checked_reads _ _ _ (sym c.in_ok-check_term-2.ensures) in
+    sym (ap check_answer (sides_read _ _ _ (few (goal.at.returns c).Else-left-right) left.1 right.1))

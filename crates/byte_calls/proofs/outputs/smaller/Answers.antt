@@ -3,22 +3,21 @@ use mathlib.Core.Path.{◌≡◌, sym, ap, ◌∙◌}
 use Prim.Native.Nat.{ℕ, ◌≤◌, ◌<◌}
 use native.Mathlib.Omega.{arith}
 use lib.Seq.{length-take-le}
-use Rattle.tables.specs.declared.Answer.TheVariants.{Accepted}
+use Rattle.tables.specs.Refusals.{Accepted}
 use Rattle.forms.specs.declared.Extent.TheVariants.{Front}
 use Rattle.forms.specs.TableForms.{read_table}
 use Rattle.byte_calls.specs.BufferParts.{Part, lent, front, form, smaller_part}
+use Rattle.tables.proofs.Checking.{accepted_unless}
 use Rattle.byte_calls.proofs.SmallerPart.{front_reads, front_sized, first_unread, second_unread, unlike, by_count}
 use Rattle.byte_calls.proofs.outputs.smaller.Goals as goal
-use Rattle.byte_calls.proofs.outputs.smaller.Goals.{After-number_at-n, In-Accepted, In-Accepted-second}
+use Rattle.byte_calls.proofs.outputs.smaller.Goals.{After-number_at-n, In_default, In_default-answer}
 
 -- each form reads
-p_reads : (c : In-Accepted) → (read_table Front c.args.p.now).answer ≡ Accepted
-p_reads c =
-    front_reads c.args.p.now c.read_table-a.ensures c.in-Accepted.is
+p_reads : (c : In_default) → c.read_table-a.result.answer ≡ Accepted
+p_reads c = accepted_unless _ c.in_default.not-Err
 
-q_reads : (c : In-Accepted-second) → (read_table Front c.args.q.now).answer ≡ Accepted
-q_reads c =
-    front_reads c.args.q.now c.read_table-b.ensures c.in-Accepted-second.is
+q_reads : (c : In_default-answer) → c.read_table-b.result.answer ≡ Accepted
+q_reads c = accepted_unless _ c.in_default-answer.not-Err
 
 -- there the two buffers, and which form is the smaller part
 abbrev first_part : After-number_at-n → Part
@@ -33,22 +32,24 @@ fewer : (c : After-number_at-n) → let p = first_part c in
     let n = c.number_at-n.result in (n < m → form q ≡ smaller_part p q) × (m ≤ n → form p ≡ smaller_part p q)
 fewer c =
     by_count (first_part c) (second_part c) c.read_table-a.ensures c.read_table-b.ensures
-    c.in-Accepted.is c.in-Accepted-second.is c.if-t-u.false c.number_at-m.ensures
+    (accepted_unless _ c.in_default.not-Err) (accepted_unless _ c.in_default-answer.not-Err) c.if-a-b.false c.number_at-m.ensures
     c.number_at-n.ensures
 
-pub returns-then-t-u : goal.returns-then-t-u
-returns-then-t-u c =
+pub returns-then-a-b : goal.returns-then-a-b
+returns-then-a-b c =
+    let at = goal.at.returns-then-a-b c in
     unlike (lent c.args.p) (lent c.args.q) c.read_table-a.ensures
-    c.read_table-b.ensures c.in-Accepted.is c.in-Accepted-second.is c.if-t-u.true
+    c.read_table-b.ensures (p_reads at.In_default) (q_reads at.In_default-answer) c.if-a-b.true
 
 pub number_at-m-requires : goal.number_at-m-requires
-number_at-m-requires c = omega (arith, front_sized _ (p_reads (goal.at.number_at-m-requires c).In-Accepted))
+number_at-m-requires c = omega (arith, front_sized c.args.p.now (front_reads _ c.read_table-a.ensures (p_reads (goal.at.number_at-m-requires c).In_default)))
 
 pub number_at-n-requires : goal.number_at-n-requires
-number_at-n-requires c = omega (arith, front_sized _ (q_reads (goal.at.number_at-n-requires c).In-Accepted-second))
+number_at-n-requires c = omega (arith, front_sized c.args.q.now (front_reads _ c.read_table-b.ensures (q_reads (goal.at.number_at-n-requires c).In_default-answer)))
 
 pub front_length-requires : goal.front_length-requires
-front_length-requires c = q_reads (goal.at.front_length-requires c).In-Accepted-second
+front_length-requires c =
+    front_reads c.args.q.now c.read_table-b.ensures (q_reads (goal.at.front_length-requires c).In_default-answer)
 
 pub slice_bounds-result-end-then-n-m : goal.slice_bounds-result-end-then-n-m
 slice_bounds-result-end-then-n-m c = sym (length-take-le _ _ c.front_length.ensures.within)
@@ -58,23 +59,24 @@ returns-then-n-m c =
     ap (λ (k : ℕ). front k (second_part (goal.at.returns-then-n-m c).After-number_at-n)) c.front_length.ensures.length
     ∙ (fewer (goal.at.returns-then-n-m c).After-number_at-n).0 c.if-n-m.true
 
-pub front_length-requires-in-Accepted-second : goal.front_length-requires-in-Accepted-second
-front_length-requires-in-Accepted-second c = p_reads (goal.at.front_length-requires-in-Accepted-second c).In-Accepted
+pub front_length-requires-2 : goal.front_length-requires-2
+front_length-requires-2 c =
+    front_reads c.args.p.now c.read_table-a.ensures (p_reads (goal.at.front_length-requires-2 c).In_default)
 
-pub slice_bounds-result-end-in-Accepted-second : goal.slice_bounds-result-end-in-Accepted-second
-slice_bounds-result-end-in-Accepted-second c = sym (length-take-le _ _ c.front_length-in-Accepted-second.ensures.within)
+pub slice_bounds-result-end-2 : goal.slice_bounds-result-end-2
+slice_bounds-result-end-2 c = sym (length-take-le _ _ c.front_length-2.ensures.within)
 
-pub returns-in-Refused : goal.returns-in-Refused
-returns-in-Refused c =
+pub returns-in-Err : goal.returns-in-Err
+returns-in-Err c =
     first_unread (lent c.args.p) (lent c.args.q) c.read_table-a.ensures
-    c.read_table-b.ensures c.in-Refused.is
+    c.read_table-b.ensures c.in-Err.is
 
-pub returns-in-Refused-second : goal.returns-in-Refused-second
-returns-in-Refused-second c =
+pub returns-in-Err-answer : goal.returns-in-Err-answer
+returns-in-Err-answer c =
     second_unread (lent c.args.p) (lent c.args.q) c.read_table-a.ensures
-    c.read_table-b.ensures c.in-Accepted.is c.in-Refused-second.is
+    c.read_table-b.ensures (p_reads (goal.at.returns-in-Err-answer c).In_default) c.in-Err-answer.is
 
-pub returns-else-n-m : goal.returns-else-n-m
-returns-else-n-m c =
-    ap (λ (k : ℕ). front k (first_part (goal.at.returns-else-n-m c).After-number_at-n)) c.front_length-in-Accepted-second.ensures.length
-    ∙ (fewer (goal.at.returns-else-n-m c).After-number_at-n).1 c.if-n-m.false
+pub returns : goal.returns
+returns c =
+    ap (λ (k : ℕ). front k (first_part (goal.at.returns c).After-number_at-n)) c.front_length-2.ensures.length
+    ∙ (fewer (goal.at.returns c).After-number_at-n).1 c.if-n-m.false

@@ -1,58 +1,35 @@
 use mathlib.Core.Path.{refl, sym}
-use mathlib.Core.List.{[]}
 use native.Mathlib.Omega.{arith}
-use borrow.Author.Rules.{rules}
-use lib.ListN.{get_or}
 use Rattle.model.specs.Tables.{close}
-use Rattle.lists.proofs.Holding.{holds_empty, holds_length, within_count}
-use Rattle.lists.proofs.SoFar.{so_far_start, so_far_step, so_far_stop, so_far_end}
+use Rattle.lists.proofs.Holding.{holds_empty, within_count}
+use Rattle.lists.proofs.SoFar.{so_far_start, so_far_end}
+use Rattle.lists.proofs.Passes.{entry_here, each_turn, each_stop}
 use Rattle.candidates.proofs.closing.close.Goals as goal
 
 pub loop-i-init : goal.loop-i-init
 unfolding close
-loop-i-init c = (
-  omega arith,
-  omega arith,
-  λ γ h. so_far_start (holds_empty _ _ (search rules) h.short) refl tt,
-)
+loop-i-init c = (omega arith, λ γ h. so_far_start (holds_empty _ _ c.told-list h.short) refl tt)
 
 pub returns-then-n-ge16 : goal.returns-then-n-ge16
 returns-then-n-ge16 c =
-    let rest = c.close_rest.ensures in
-    let lp = c.loop-i in
-    record {
+    let rest = c.close_rest.ensures in record {
       within = rest.within;
-      made = λ γ h. let w = lp.invariant.2 γ h in rw (sym w.rest) (rest.made γ w.now h w.held);
+      made = λ γ h. let w = c.loop-i.invariant.1 γ h in rw (sym w.rest) (rest.made γ w.now h w.held);
     }
 
-pub returns-in-Full : goal.returns-in-Full
-returns-in-Full c =
-    let lp = c.loop-i in record {
-      within = tt;
-      made = λ γ h.
-          let w = lp.invariant.2 γ h in
-          let made = c.close_one.ensures.made _ (get_or γ lp.i []) w.held (holds_length h lp.i (omega arith))
-          (h.here lp.i (omega arith)) in
-          so_far_stop w [] (omega (arith, h.count)) made c.in-Full.is;
-    }
+pub returns-in_err-n-clause-made : goal.returns-in_err-n-clause-made
+returns-in_err-n-clause-made c =
+    rw c.from_residual.ensures (λ γ h.
+    each_stop (c.loop-i.invariant.1 γ h) (entry_here h _ c.loop-i-test.true)
+    (λ τ s t e is known. c.close_one.ensures.made τ s t e is) c.in_err-n.was)
 
 pub loop-i-preserved : goal.loop-i-preserved
-loop-i-preserved c =
-    let lp = c.loop-i in
-    let is = c.in-Count.is in (
-      omega arith,
-      within_count c.close_one.ensures.within is,
-      λ γ h.
-          let w = lp.invariant.2 γ h in
-          let made = c.close_one.ensures.made _ (get_or γ lp.i []) w.held (holds_length h lp.i (omega arith))
-          (h.here lp.i (omega arith)) in
-          so_far_step w [] (omega (arith, h.count)) made is (λ κ s. tt),
-    )
+loop-i-preserved c = (
+  within_count c.close_one.ensures.within c.in_ok-n.was,
+  λ γ h.
+      each_turn (c.loop-i.invariant.1 γ h) (entry_here h _ c.loop-i-test.true)
+      (λ τ s t e is known. c.close_one.ensures.made τ s t e is) c.in_ok-n.was (λ τ s κ t e is known got. tt),
+)
 
-pub returns : goal.returns
-returns c =
-    let lp = c.loop-i in
-    record {
-      within = lp.invariant.1;
-      made = λ γ h. so_far_end (lp.invariant.2 γ h) (omega (arith, h.count));
-    }
+pub returns-clause-made : goal.returns-clause-made
+returns-clause-made c = λ γ h. so_far_end (c.loop-i.invariant.1 γ h) (omega (arith, h.count))

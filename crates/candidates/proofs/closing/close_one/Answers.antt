@@ -8,24 +8,24 @@ use Rattle.candidates.proofs.closing.close_one.Goals as goal
 
 pub grow-requires : goal.grow-requires
 grow-requires c =
-    (within_count c.grow_each.ensures.within c.in-Count.is, omega (arith, c.requires.1))
+    (within_count c.grow_each.ensures.within c.in_ok-m.was, omega (arith, c.requires.1))
 
-pub returns-in-Count : goal.returns-in-Count
-returns-in-Count c =
+pub returns : goal.returns
+returns c =
     record {
       within = c.grow.ensures.within;
       made = λ τ s h e is.
           rw (close_row τ s)
           (makes_then (c.grow_each.ensures.made τ _ h (c.pair_row-k.ensures.made _ τ s h e is)) (λ S. grow S s)
-          c.in-Count.is (λ S k. c.grow.ensures.made S s k e is));
+          c.in_ok-m.was (λ S k. c.grow.ensures.made S s k e is));
     }
 
-pub returns-in-Full : goal.returns-in-Full
-returns-in-Full c =
-    record {
+pub returns-in_err-m : goal.returns-in_err-m
+returns-in_err-m c =
+    rw c.from_residual.ensures (record {
       within = tt;
       made = λ τ s h e is.
           rw (close_row τ s)
           (stops_then (c.grow_each.ensures.made τ _ h (c.pair_row-k.ensures.made _ τ s h e is)) (λ S. grow S s)
-          c.in-Full.is);
-    }
+          c.in_err-m.was);
+    })

@@ -8,33 +8,33 @@ use Rattle.candidates.proofs.RowEnds.{holds_one}
 use Rattle.candidates.proofs.ProceduresAsFolds.{close_on, close_full}
 use Rattle.candidates.proofs.closing.close_unseen.Goals as goal
 
-pub grow_unseen-requires-in-Count : goal.grow_unseen-requires-in-Count
-grow_unseen-requires-in-Count c =
-    (within_count c.grow_unseen.ensures.within c.in-Count.is, omega (arith, c.requires.1), omega arith)
+pub grow_unseen-requires-2 : goal.grow_unseen-requires-2
+grow_unseen-requires-2 c =
+    (within_count c.grow_unseen.ensures.within c.in_ok-m.was, omega (arith, c.requires.1), omega arith)
 
-pub returns-in-Count : goal.returns-in-Count
-returns-in-Count c =
+pub returns : goal.returns
+returns c =
     let words = c.pair_row-k.new.row in
     let first = c.grow_unseen.ensures in
-    let second = c.grow_unseen-in-Count.ensures in record {
+    let second = c.grow_unseen-2.ensures in record {
       within = second.within;
       made = λ τ s h e is f.
           let row = c.pair_row-k.ensures.made _ τ s h e is in
-          let t = makes_count (first.made τ _ h row f) c.in-Count.is in
+          let t = makes_count (first.made τ _ h row f) c.in_ok-m.was in
           rw (close_on τ s t.0 t.1)
           (second.made t.0 _ t.2 (holds_one words row.room h.short s e is)
           (first.filter τ _ t.0 h row f t.1));
       filter = λ τ s h e is κ f q.
           let row = c.pair_row-k.ensures.made _ τ s h e is in
-          let t = makes_count (first.made τ _ h row f) c.in-Count.is in
+          let t = makes_count (first.made τ _ h row f) c.in_ok-m.was in
           second.filter t.0 _ κ t.2 (holds_one words row.room h.short s e is)
           (first.filter τ _ t.0 h row f t.1) (sym (close_on τ s t.0 t.1) ∙ q);
     }
 
-pub returns-in-Full : goal.returns-in-Full
-returns-in-Full c =
+pub returns-in_err-m : goal.returns-in_err-m
+returns-in_err-m c =
     let first = c.grow_unseen.ensures.made in
-    let is_full = c.in-Full.is in record {
+    let is_full = c.in_err-m.was in rw c.from_residual.ensures (record {
       within = tt;
       made = λ τ s h e is f.
           let made = first τ _ h (c.pair_row-k.ensures.made _ τ s h e is) f in
@@ -42,4 +42,4 @@ returns-in-Full c =
       filter = λ τ s h e is κ f q.
           let made = first τ _ h (c.pair_row-k.ensures.made _ τ s h e is) f in
           absurd (none-ne-some κ (sym (close_full τ s (makes_full made is_full)) ∙ q));
-    }
+    })

@@ -1,6 +1,5 @@
 -- The meets of the table with the one string that has 0 at all of the set, which `other` holds (`holds_one`, `zeros_shl`).
 use mathlib.Core.Path.{◌∙◌}
-use borrow.Author.Rules.{rules}
 use Rattle.model.specs.Strings.{zeros}
 use Rattle.model.specs.Tables.{irrelevant}
 use Rattle.model.proofs.Candidates.{zeros_length}
@@ -16,6 +15,6 @@ returns c =
       within = m.within;
       made = λ τ k h e is.
           m.made τ _ h
-          (holds_one c.args.other.now (search rules) h.short (zeros k) (zeros_length k ∙ e)
+          (holds_one c.args.other.now c.told-other h.short (zeros k) (zeros_length k ∙ e)
           (zeros_shl k c.ranges.m.fits is));
     }

@@ -1,18 +1,9 @@
--- Loop (`SoFar`): as in `pairs_plain`, and the list absorbs all that the filter holds.
-use mathlib.Core.List.{[]}
-use Prim.Native.Nat.{◌-◌, ◌≤◌}
-use Rattle.model.specs.Growth.{Entries, grow_all}
+-- Loop (`RowsSoFar`): as in `pairs_plain`, and the list absorbs all that the filter holds.
+use Prim.Native.Nat.{◌≤◌}
 use Rattle.lists.specs.WorkingLists.{Holds}
 use Rattle.lists.specs.Filters.{Filters}
-use Rattle.lists.proofs.SoFar.{SoFar}
-use Rattle.candidates.specs.Pairs.{pairs_of}
-use Rattle.candidates.proofs.ProceduresAsFolds.{pair_step}
+use Rattle.candidates.proofs.RowsGrown.{RowsSoFar}
 use Rattle.candidates.proofs.pairs.pairs_unseen.Given as goal
 
-abbrev pub invariant-loop-i : goal.invariant-loop-i
-invariant-loop-i l = (l.i ≤ l.an) × (l.n ≤ 256)
-    × ((α β : Entries) → Holds l.l l.a l.an α → Holds l.l l.b l.bn β
-    → SoFar l.l (pair_step l.op β) α (grow_all [] (pairs_of l.op α β)) (Filters l.l l.seen) l.list l.n l.i)
-
-abbrev pub decreases-loop-i : goal.decreases-loop-i
-decreases-loop-i l = l.an - l.i
+abbrev pub invariant-loop-x : goal.invariant-loop-x
+invariant-loop-x l = (l.n ≤ 256) × RowsSoFar l.op l.l l.a l.an (Holds l.l l.b l.bn) (Filters l.l l.seen) l.list l.n l.x-index

@@ -1,58 +1,46 @@
-use mathlib.Core.Path.{sym, ◌∙◌}
-use mathlib.Core.List.{[]}
+use mathlib.Core.Path.{◌≡◌, refl, sym, ◌∙◌}
 use native.Mathlib.Omega.{arith}
-use borrow.Author.Rules.{rules}
-use lib.ListN.{get_or}
-use Rattle.model.specs.Strings.{ones}
+use lib.ListN.{length, get_or, take}
+use Rattle.model.specs.Strings.{Trits, ones}
+use Rattle.model.specs.Growth.{Entries}
 use Rattle.model.specs.Tables.{relevant}
-use Rattle.lists.proofs.Holding.{holds_empty, holds_length, within_count}
-use Rattle.lists.proofs.SoFar.{so_far_start, so_far_step, so_far_stop, so_far_end}
+use Rattle.words.specs.Words.{word}
+use Rattle.lists.specs.WorkingLists.{Holds}
+use Rattle.lists.proofs.Holding.{within_count}
 use Rattle.candidates.specs.declared.Pairing.TheVariants.{Meet}
 use Rattle.candidates.specs.Pairs.{row_of, pairs_of}
-use Rattle.candidates.proofs.ProceduresAsFolds.{pairs_fold}
+use Rattle.candidates.proofs.RowsGrown.{OnesOf, rows_start, rows_turn, rows_stop, rows_end}
 use Rattle.candidates.proofs.pairs.relevant_by_entry.Goals as goal
+use Rattle.candidates.proofs.pairs.relevant_by_entry.Goals.{After-relevant_row-k}
 
-pub loop-i-init : goal.loop-i-init
+-- the row of one entry
+filled : (c : After-relevant_row-k) (β : Entries) (s : Trits) → OnesOf c.args.l c.args.m β → length s ≡ c.args.l
+    → get_or (take c.args.tn c.args.t.now) c.loop-e.e-index 0 ≡ word s
+    → Holds c.args.l c.relevant_row-k.new.row c.relevant_row-k.result (row_of Meet s β)
+unfolding row_of
+filled c β s b long is =
+    rw b.1 (rw long at (c.relevant_row-k.ensures.made s b.0 (omega (arith, long)) (b.2 ∙ sym long) is b.3))
+
+pub loop-e-init : goal.loop-e-init
+loop-e-init c = (omega arith, rows_start Meet _ _ _ (OnesOf _ _) _ c.told-list (λ short. tt))
+
+pub returns-in_err-n-clause-made : goal.returns-in_err-n-clause-made
 unfolding relevant pairs_of
-loop-i-init c = (
-  omega arith,
-  omega arith,
-  λ τ g h e is. so_far_start (holds_empty _ _ (search rules) h.short) (pairs_fold Meet (ones g) [] τ) tt,
+returns-in_err-n-clause-made c =
+    rw c.from_residual.ensures (λ τ g h e is.
+    rows_stop Meet _ _ _ (OnesOf _ _) c.loop-e.invariant.1 c.loop-e-test.true
+    (filled (goal.at.returns-in_err-n-clause-made c).After-relevant_row-k)
+    (λ τ ρ h row known. c.grow_each.ensures.made τ ρ h row) c.in_err-n.was τ (ones g) h (g, refl, e, is))
+
+pub loop-e-preserved : goal.loop-e-preserved
+loop-e-preserved c = (
+  within_count c.grow_each.ensures.within c.in_ok-n.was,
+  rows_turn Meet _ _ _ (OnesOf _ _) c.loop-e.invariant.1 c.loop-e-test.true
+      (filled (goal.at.loop-e-preserved c).After-relevant_row-k)
+      (λ τ ρ h row known. c.grow_each.ensures.made τ ρ h row) c.in_ok-n.was (λ τ ρ κ h row known is. tt),
 )
 
-pub returns-in-Full : goal.returns-in-Full
-unfolding row_of
-returns-in-Full c =
-    let lp = c.loop-i in record {
-      within = tt;
-      made = λ τ g h e is.
-          let w = lp.invariant.2 τ g h e is in
-          let long = holds_length h lp.i (omega arith) in
-          let row = rw long at (c.relevant_row-k.ensures.made (get_or τ lp.i []) g (rw long h.short) (e ∙ sym long)
-          (h.here lp.i (omega arith)) is) in
-          let made = c.grow_each.ensures.made _ _ w.held row in
-          so_far_stop w [] (omega (arith, h.count)) made c.in-Full.is;
-    }
-
-pub loop-i-preserved : goal.loop-i-preserved
-unfolding row_of
-loop-i-preserved c =
-    let lp = c.loop-i in
-    let got = c.in-Count.is in (
-      omega arith,
-      within_count c.grow_each.ensures.within got,
-      λ τ g h e is.
-          let w = lp.invariant.2 τ g h e is in
-          let long = holds_length h lp.i (omega arith) in
-          let row = rw long at (c.relevant_row-k.ensures.made (get_or τ lp.i []) g (rw long h.short) (e ∙ sym long)
-          (h.here lp.i (omega arith)) is) in
-          so_far_step w [] (omega (arith, h.count)) (c.grow_each.ensures.made _ _ w.held row) got (λ κ s. tt),
-    )
-
-pub returns : goal.returns
-returns c =
-    let lp = c.loop-i in
-    record {
-      within = lp.invariant.1;
-      made = λ τ g h e is. so_far_end (lp.invariant.2 τ g h e is) (omega (arith, h.count));
-    }
+pub returns-clause-made : goal.returns-clause-made
+unfolding relevant pairs_of
+returns-clause-made c =
+    λ τ g h e is. rows_end Meet _ _ _ (OnesOf _ _) c.loop-e.invariant.1 c.loop-e-test.false τ (ones g) h (g, refl, e, is)

@@ -1,6 +1,5 @@
 use mathlib.Core.Path.{sym, ◌∙◌}
 use native.Mathlib.Omega.{arith}
-use borrow.Author.Rules.{rules}
 use borrow.Author.Tests.{eq-eqb, ne_eqb}
 use Rattle.model.proofs.Positions.{one_at_length}
 use Rattle.words.proofs.Codec.{set_bit}
@@ -12,31 +11,22 @@ use Rattle.candidates.proofs.rows.ones_row.Goals as goal
 use Rattle.candidates.proofs.rows.ones_row.Goals.{else-m-i-eq1, then-m-i-eq1}
 
 pub loop-i-init : goal.loop-i-init
-loop-i-init c = (omega arith, omega arith, λ g e m. row_start (search rules) (omega arith))
+loop-i-init c = (omega arith, λ g e m. row_start c.told-row c.requires)
 
 pub loop-i-preserved : goal.loop-i-preserved
 loop-i-preserved c =
-    let w = c.loop-i in (
-      omega arith,
-      elim c.if-m-i-eq1.branch [
-        | then-m-i-eq1 v ↦ omega arith
-        | else-m-i-eq1 v ↦ omega arith
-      ],
+    let w = c.loop-i in
+    let lt = c.loop-i-test.true in (
+      elim c.if-m-i-eq1.branch [ then-m-i-eq1 v ↦ omega arith | else-m-i-eq1 v ↦ omega arith ],
       λ g e m.
           let t = rw (← m) at (sym (set_bit g w.i)) in
-          let p = w.invariant.2 g e m in
+          let p = w.invariant.1 g e m in
           elim c.if-m-i-eq1.branch [
             | then-m-i-eq1 v ↦ rw (v.row-is, v.k-is, one_shl w.i 64 (omega arith))
-                (row_add p (omega arith) (t ∙ eq-eqb _ 1 v.if-m-i-eq1.true) (sym (one_word _ w.i (omega arith)))
-                (one_at_length _ w.i) (omega arith))
-            | else-m-i-eq1 v ↦ rw (v.row-is, v.k-is) (row_skip p (omega arith) (t ∙ ne_eqb _ 1 v.if-m-i-eq1.false))
+                (row_add p lt (t ∙ eq-eqb _ 1 v.if-m-i-eq1.true) (sym (one_word _ w.i lt)) (one_at_length _ w.i) (omega arith))
+            | else-m-i-eq1 v ↦ rw (v.row-is, v.k-is) (row_skip p lt (t ∙ ne_eqb _ 1 v.if-m-i-eq1.false))
           ],
     )
 
-pub returns : goal.returns
-returns c =
-    let w = c.loop-i in
-    record {
-      few = omega arith;
-      made = λ g e m. ones_end g e (w.invariant.2 g e m) (omega arith);
-    }
+pub returns-clause-made : goal.returns-clause-made
+returns-clause-made c = λ g e m. ones_end g e (c.loop-i.invariant.1 g e m) c.loop-i-test.false

@@ -1,7 +1,7 @@
 -- Loop (`RowSoFar`): the row has a string for each variable of the set before position i (`ones_end`).
 use mathlib.Core.Path.{◌≡◌}
 use mathlib.Core.Bool.{false}
-use Prim.Native.Nat.{◌-◌, ◌≤◌}
+use Prim.Native.Nat.{◌≤◌}
 use lib.ListN.{length, get_or}
 use Rattle.model.specs.Groups.{Bits}
 use Rattle.model.specs.Strings.{one_at}
@@ -10,8 +10,5 @@ use Rattle.lists.proofs.RowLoops.{RowSoFar}
 use Rattle.candidates.proofs.rows.ones_row.Given as goal
 
 abbrev pub invariant-loop-i : goal.invariant-loop-i
-invariant-loop-i l = (l.i ≤ l.l) × (l.k ≤ l.i)
+invariant-loop-i l = (l.k ≤ l.i)
     × ((g : Bits) → length g ≡ l.l → l.m ≡ set_word g → RowSoFar l.l (λ j. get_or g j false) (one_at l.l) l.l l.row l.k l.i)
-
-abbrev pub decreases-loop-i : goal.decreases-loop-i
-decreases-loop-i l = l.l - l.i

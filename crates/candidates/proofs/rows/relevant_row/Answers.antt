@@ -2,14 +2,12 @@ use mathlib.Core.Path.{◌≡◌, refl, sym, ◌∙◌}
 use mathlib.Core.Bool.{false}
 use Prim.Native.Nat.{◌-◌, ◌/◌, ◌<◌, ◌^◌}
 use native.Mathlib.Omega.{arith}
-use borrow.Author.Rules.{rules}
-use lib.Bits.{bit_and, and_le_l, and_le_r, xor_lt}
+use lib.Bits.{bit_and, and_le_l, xor_lt}
 use lib.Count.{ones-le, count_trailing_zeros}
 use lib.ListN.{length, get_or}
 use Rattle.model.specs.Strings.{matches, one_at}
 use Rattle.model.proofs.Candidates.{meet_length}
 use Rattle.model.proofs.Positions.{one_at_length}
-use Rattle.words.proofs.Clearing.{trailing_lt}
 use Rattle.words.proofs.Codec.{set_inside}
 use Rattle.words.proofs.Positions.{one_shl}
 use Rattle.words.proofs.Words.{one_word, both_true}
@@ -24,38 +22,8 @@ loop-left-init c =
     let lt = xor_lt 32 named (bit_and named zeros) (omega arith) (omega (arith, and_le_l named zeros)) in (
       lt,
       omega (arith, ones-le 32 _ lt),
-      λ s g short e w m. rw (w, m) (meeting_start g s (search rules) short e),
+      λ s g short e w m. rw (w, m) (meeting_start g s c.told-row short e),
     )
-
-pub overflow_cast-left : goal.overflow_cast-left
-overflow_cast-left c =
-    let lp = c.loop-left in
-    omega (arith, trailing_lt 64 32 lp.left lp.invariant.0 (omega arith) (λ z. absurd (omega (arith, z))))
-
-pub overflow_shl-left : goal.overflow_shl-left
-overflow_shl-left c =
-    let lp = c.loop-left in
-    omega (arith, trailing_lt 64 32 lp.left lp.invariant.0 (omega arith) (λ z. absurd (omega (arith, z))))
-
-pub offset_bounds-row-k : goal.offset_bounds-row-k
-offset_bounds-row-k c =
-    let lp = c.loop-left in
-    omega (arith, ones_room lp.k lp.left lp.invariant.0 lp.invariant.1 (λ z. absurd (omega (arith, z))))
-
-pub bounds-row-k : goal.bounds-row-k
-bounds-row-k c =
-    let lp = c.loop-left in
-    omega (arith, ones_room lp.k lp.left lp.invariant.0 lp.invariant.1 (λ z. absurd (omega (arith, z))))
-
-pub overflow_add-k : goal.overflow_add-k
-overflow_add-k c =
-    let lp = c.loop-left in
-    omega (arith, ones_room lp.k lp.left lp.invariant.0 lp.invariant.1 (λ z. absurd (omega (arith, z))))
-
-pub loop-left-smaller : goal.loop-left-smaller
-loop-left-smaller c =
-    let lp = c.loop-left in
-    omega (arith, and_le_r lp.left (lp.left - 1))
 
 pub loop-left-preserved : goal.loop-left-preserved
 loop-left-preserved c =
@@ -79,11 +47,7 @@ loop-left-preserved c =
           (meet_length (length s) s (one_at (length s) i) refl one) (omega (arith, room)),
     )
 
-pub returns : goal.returns
-returns c =
-    let lp = c.loop-left in record {
-      few = omega (arith, lp.invariant.1);
-      made = λ s g short e w m.
-          let end = lowest_end (lp.invariant.2 s g short e w m) (omega arith) in
-          rw (meeting_meets g s e) end;
-    }
+pub returns-clause-made : goal.returns-clause-made
+returns-clause-made c =
+    λ s g short e w m.
+    rw (meeting_meets g s e) (lowest_end (c.loop-left.invariant.2 s g short e w m) c.loop-left-test.false)

@@ -1,8 +1,7 @@
 -- By recursion: each way through `covered` answers by one law of `Pieces` or `Narrowing`, from what the calls promise.
 use mathlib.Core.Path.{◌≡◌, sym, ◌∙◌}
-use Prim.Native.Nat.{ℕ, ◌<◌, ◌≤◌}
+use Prim.Native.Nat.{◌≤◌}
 use native.Mathlib.Omega.{arith}
-use borrow.Author.Rules.{rules}
 use lib.ListN.{length}
 use Rattle.lists.proofs.Holding.{holds_length}
 use Rattle.covering.proofs.Pieces.{covered_none, left_start, left_skip, left_fail, left_next, left_done, answer}
@@ -10,16 +9,9 @@ use Rattle.covering.proofs.Narrowing.{covered_subsumed, covered_narrowed}
 use Rattle.covering.proofs.cover.+covered.Goals as goal
 use Rattle.covering.proofs.cover.+covered.Goals.{then-splits+else-not-covered, else-splits}
 
--- an entry was found
-found : {at n : ℕ} → at ≤ n → ¬ (at ≡ n) → at < n
-found h e = omega arith
-
 pub returns-then-subsumed : goal.returns-then-subsumed
 returns-then-subsumed t c =
     λ τ s h n e. covered_subsumed _ τ s (sym (c.subsumed.ensures.strings _ τ s h n e) ∙ c.if-subsumed.true)
-
-pub covered-requires : goal.covered-requires
-covered-requires t c = (omega (arith, c.if-y-x.true, c.narrowed-x.type_inv, c.decreases), search rules)
 
 pub returns-then-y-x : goal.returns-then-y-x
 returns-then-y-x t c =
@@ -27,35 +19,24 @@ returns-then-y-x t c =
     let f = c.narrowed-x.ensures.strings _ τ s h n e in
     c.covered.ensures τ f.string h (f.long ∙ n) f.is ∙ covered_narrowed _ τ s f
 
-pub returns-then-at-n : goal.returns-then-at-n
-returns-then-at-n t c =
+pub returns-in_default : goal.returns-in_default
+returns-in_default t c =
     λ τ s h n e.
-    c.is_zero.ensures.strings s n e
-    ∙ covered_none _ τ s n
-    ((c.nearest-at.ensures.strings _ τ s h n e).no_match (omega (arith, h.count, c.if-at-n.true)))
+    c.is_zero.ensures.strings s n e ∙ covered_none _ τ s n (c.in_default.ensures.strings _ τ s h n e)
 
 pub loop-i-init : goal.loop-i-init
 loop-i-init t c = (
-  search rules,
-  search rules,
-  λ τ s h n e.
-      let near = found c.nearest-at.ensures.bound c.if-at-n.false in
-      left_start _ τ _ s _ n e ((c.nearest-at.ensures.strings _ τ s h n e).found (omega (arith, near, h.count))),
+  omega arith,
+  λ τ s h n e. left_start _ τ _ s _ n e (c.in-Some.ensures.strings _ τ s h n e).1,
 )
-
-pub covered-requires-then-splits : goal.covered-requires-then-splits
-covered-requires-then-splits t c =
-    let more = c.splits.ensures.more c.if-splits.true in
-    let piece = c.opposed-piece in
-    (omega (arith, more, piece.ensures.words, piece.type_inv, c.decreases, c.loop-i.invariant.1), search rules)
 
 pub returns-then-not-covered : goal.returns-then-not-covered
 returns-then-not-covered t c =
     λ τ s h n e.
     let l = c.args.l in
     let i = c.loop-i.i in
-    let near = found c.nearest-at.ensures.bound c.if-at-n.false in
-    let a = c.loop-i.invariant.2 τ s h n e in
+    let near = c.in-Some.ensures.bound in
+    let a = c.loop-i.invariant.1 τ s h n e in
     let long = holds_length h _ near in
     let v = h.here _ near in
     let short : length a.rest ≤ 32 = rw a.long h.short in
@@ -69,14 +50,13 @@ pub loop-i-preserved : goal.loop-i-preserved
 loop-i-preserved t c =
     let l = c.args.l in
     let i = c.loop-i.i in
-    let near = found c.nearest-at.ensures.bound c.if-at-n.false in (
-      search rules,
+    let near = c.in-Some.ensures.bound in (
       elim c.if-splits.branch [
-        | then-splits+else-not-covered p ↦ rw p.z-is (omega (arith, p.agreed-z.ensures.more, c.loop-i.invariant.1))
-        | else-splits p ↦ rw p.z-is c.loop-i.invariant.1
+        | then-splits+else-not-covered p ↦ rw p.z-is (omega (arith, p.agreed-z.ensures.more, c.loop-i.invariant.0))
+        | else-splits p ↦ rw p.z-is c.loop-i.invariant.0
       ],
       λ τ s h n e.
-          let a = c.loop-i.invariant.2 τ s h n e in
+          let a = c.loop-i.invariant.1 τ s h n e in
           let long = holds_length h _ near in
           let v = h.here _ near in
           let short : length a.rest ≤ 32 = rw a.long h.short in
@@ -95,7 +75,7 @@ loop-i-preserved t c =
 pub returns : goal.returns
 returns t c =
     λ τ s h n e.
-    let near = found c.nearest-at.ensures.bound c.if-at-n.false in
+    let near = c.in-Some.ensures.bound in
     let end : c.loop-i.i ≡ c.args.l = omega arith in
     left_done _ _ τ s _ (omega (arith, near, h.count)) (holds_length h _ near)
-    (rw end at (c.loop-i.invariant.2 τ s h n e))
+    (rw end at (c.loop-i.invariant.1 τ s h n e))

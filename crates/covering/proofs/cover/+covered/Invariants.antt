@@ -12,9 +12,5 @@ abbrev pub decreases-covered : goal.decreases-covered
 decreases-covered l = 2 ^ 64 - l.y
 
 abbrev pub invariant-loop-i : goal.invariant-loop-i
-invariant-loop-i l = (l.i ≤ l.l)
-    × (l.y ≤ l.z)
+invariant-loop-i l = (l.y ≤ l.z)
     × OfString l.l l.list l.n l.y (λ τ s. Left l.l l.i τ (get_or τ l.at []) s l.z)
-
-abbrev pub decreases-loop-i : goal.decreases-loop-i
-decreases-loop-i l = l.l - l.i

@@ -1,31 +1,22 @@
 use mathlib.Core.Path.{sym, ◌∙◌}
 use Prim.Native.Nat.{◌<◌}
 use native.Mathlib.Omega.{arith}
-use borrow.Author.Rules.{rules}
-use Rattle.lists.proofs.Holding.{holds_length}
+use Rattle.lists.proofs.Holding.{holds_length, holds_slice}
 use Rattle.covering.proofs.Narrowing.{narrows_same, narrows_more}
 use Rattle.covering.proofs.cover.narrowed.Goals as goal
 
-pub loop-i-init : goal.loop-i-init
-loop-i-init c = (search rules, search rules, λ l τ s h e is. narrows_same _ s is)
+pub loop-v-init : goal.loop-v-init
+loop-v-init c = (omega arith, λ l τ s h e is. narrows_same _ s is)
 
-pub loop-i-preserved : goal.loop-i-preserved
-loop-i-preserved c =
-    let w = c.loop-i in
+pub loop-v-preserved : goal.loop-v-preserved
+loop-v-preserved c =
+    let w = c.loop-v in
     let call = c.narrowed_by-x.ensures in
-    let below : w.i < c.args.n = omega arith in (
-      search rules,
-      omega (arith, call.more, w.invariant.1),
+    let lt : w.v-index < c.args.n = omega arith in (
+      omega (arith, call.more, w.invariant.0),
       λ l τ s h e is.
-          let a = w.invariant.2 l τ s h e is in
-          let long = holds_length h w.i below in
-          narrows_more τ w.i (omega (arith, below, h.count)) a
-          (call.strings _ a.string (long ∙ sym (a.long ∙ e)) (rw long h.short) (h.here _ below) a.is),
+          let a = w.invariant.1 l τ s h e is in
+          let long = holds_length h _ lt in
+          narrows_more τ _ (omega (arith, lt, h.count)) a
+          (call.strings _ a.string (long ∙ sym (a.long ∙ e)) (rw long h.short) (holds_slice h _ lt) a.is),
     )
-
-pub returns : goal.returns
-returns c =
-    record {
-      more = c.loop-i.invariant.1;
-      strings = c.loop-i.invariant.2;
-    }

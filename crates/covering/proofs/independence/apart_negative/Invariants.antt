@@ -1,7 +1,7 @@
 -- Loop: all that y covers with a first variable before j is covered. A part that is not decides (`apart_no`, `apart_all`).
 use mathlib.Core.Bool.{true, false}
 use mathlib.Core.Path.{◌≡◌}
-use Prim.Native.Nat.{ℕ, ◌≤◌, ◌<◌, ◌-◌}
+use Prim.Native.Nat.{ℕ, ◌<◌}
 use lib.ListN.{length, get_or}
 use Rattle.model.specs.Groups.{Bits}
 use Rattle.model.specs.Strings.{covers}
@@ -11,9 +11,5 @@ use Rattle.covering.proofs.MeetingSets.{part}
 use Rattle.covering.proofs.independence.apart_negative.Given as goal
 
 abbrev pub invariant-loop-j : goal.invariant-loop-j
-invariant-loop-j l = (l.j ≤ l.l)
-    × OfString l.l l.list l.n l.y (λ τ s. (k : Bits) → length k ≡ l.l → l.set ≡ set_word k
+invariant-loop-j l = OfString l.l l.list l.n l.y (λ τ s. (k : Bits) → length k ≡ l.l → l.set ≡ set_word k
     → (i : ℕ) → i < l.j → get_or k i false ≡ true → part l.l τ (covers s) k i ≡ true)
-
-abbrev pub decreases-loop-j : goal.decreases-loop-j
-decreases-loop-j l = l.l - l.j

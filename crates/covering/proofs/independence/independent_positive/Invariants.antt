@@ -1,6 +1,6 @@
--- Loop: no entry before i joins the sets, so that the others decide (`positive_next`, `positive_end`).
+-- Loop: no entry before e joins the sets, so that the others decide (`positive_next`, `positive_end`).
 use mathlib.Core.Path.{◌≡◌}
-use Prim.Native.Nat.{ℕ, ◌≤◌, ◌-◌}
+use Prim.Native.Nat.{ℕ}
 use lib.ListN.{length, drop}
 use Rattle.model.specs.Groups.{Bits}
 use Rattle.model.specs.Growth.{Entries}
@@ -10,11 +10,7 @@ use Rattle.words.specs.Words.{set_word}
 use Rattle.lists.specs.WorkingLists.{Holds}
 use Rattle.covering.proofs.independence.independent_positive.Given as goal
 
-abbrev pub invariant-loop-i : goal.invariant-loop-i
-invariant-loop-i v = (v.i ≤ v.n)
-    × ((l : ℕ) (τ : Entries) (x y : Bits) → Holds l v.list v.n τ → length x ≡ l → length y ≡ l
+abbrev pub invariant-loop-e : goal.invariant-loop-e
+invariant-loop-e v = (l : ℕ) (τ : Entries) (x y : Bits) → Holds l v.list v.n τ → length x ≡ l → length y ≡ l
     → v.a ≡ set_word x → v.b ≡ set_word y
-    → independent positive l τ x y ≡ independent positive l (drop v.i τ) x y)
-
-abbrev pub decreases-loop-i : goal.decreases-loop-i
-decreases-loop-i l = l.n - l.i
+    → independent positive l τ x y ≡ independent positive l (drop v.e-index τ) x y

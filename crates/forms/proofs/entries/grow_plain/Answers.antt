@@ -18,7 +18,7 @@ use Rattle.forms.proofs.entries.grow_plain.Goals.{After-grow}
 
 -- what was made of it
 made : (c : After-grow) → let a = c.args in
-    let w = c.loop-i.invariant.2 in
+    let w = c.loop-i.invariant.1 in
     Makes a.l c.grow.new.list c.grow.result
     (grow w.now (get_or (written_entries Plain a.l a.n a.b.now) c.loop-i.i []))
 made c =
@@ -28,7 +28,7 @@ made c =
     let lt = c.loop-i-test.true in
     let is = c.word_of-y.ensures.words ∙ ap word_of c.entry_at.ensures
     ∙ entry_word a.l a.n a.b.now i lt p.3 in
-    c.grow.ensures.made _ _ c.loop-i.invariant.2.held
+    c.grow.ensures.made _ _ c.loop-i.invariant.1.held
     (wide_at a.l _ i (entries_wide Plain a.l a.n a.b.now p.2)
     (omega (arith, plain_count a.l a.n a.b.now))) is
 
@@ -36,29 +36,27 @@ pub loop-i-init : goal.loop-i-init
 unfolding grow_all
 loop-i-init c = (
   omega arith,
-  omega arith,
   so_far_start (holds_empty _ _ (search rules) c.requires.0) refl tt,
 )
 
-pub returns-in-Full : goal.returns-in-Full
-returns-in-Full c =
+pub returns-in_err-k : goal.returns-in_err-k
+returns-in_err-k c =
     let lp = c.loop-i in
     let a = c.args in
-    so_far_stop lp.invariant.2 [] (omega (arith, plain_count a.l a.n a.b.now))
-    (made (goal.at.returns-in-Full c).After-grow) c.in-Full.is
+    rw c.from_residual.ensures (so_far_stop lp.invariant.1 [] (omega (arith, plain_count a.l a.n a.b.now))
+    (made (goal.at.returns-in_err-k c).After-grow) c.in_err-k.was)
 
 pub loop-i-preserved : goal.loop-i-preserved
 loop-i-preserved c =
     let lp = c.loop-i in
     let a = c.args in
-    let is = c.in-Count.is in (
-      omega arith,
+    let is = c.in_ok-k.was in (
       within_count c.grow.ensures.within is,
-      so_far_step lp.invariant.2 [] (omega (arith, plain_count a.l a.n a.b.now))
+      so_far_step lp.invariant.1 [] (omega (arith, plain_count a.l a.n a.b.now))
           (made (goal.at.loop-i-preserved c).After-grow) is (λ κ g. tt),
     )
 
 pub returns : goal.returns
 returns c =
     let a = c.args in
-    so_far_end c.loop-i.invariant.2 (omega (arith, plain_count a.l a.n a.b.now))
+    so_far_end c.loop-i.invariant.1 (omega (arith, plain_count a.l a.n a.b.now))

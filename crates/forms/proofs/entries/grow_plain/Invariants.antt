@@ -1,6 +1,6 @@
 -- Loop (`SoFar`): the list is grown by the entries before i, and to go on with the others gives the whole.
 use mathlib.Core.List.{[]}
-use Prim.Native.Nat.{◌-◌, ◌≤◌}
+use Prim.Native.Nat.{◌≤◌}
 use Rattle.model.specs.Growth.{grow, grow_all}
 use Rattle.lists.proofs.SoFar.{SoFar, Any}
 use Rattle.forms.specs.declared.Layout.TheVariants.{Plain}
@@ -9,7 +9,4 @@ use Rattle.forms.proofs.entries.grow_plain.Given as goal
 
 abbrev pub invariant-loop-i : goal.invariant-loop-i
 invariant-loop-i l = let ρ = written_entries Plain l.l l.n l.b in
-    (l.i ≤ l.n) × (l.k ≤ 256) × SoFar l.l grow ρ (grow_all [] ρ) Any l.list l.k l.i
-
-abbrev pub decreases-loop-i : goal.decreases-loop-i
-decreases-loop-i l = l.n - l.i
+    (l.k ≤ 256) × SoFar l.l grow ρ (grow_all [] ρ) Any l.list l.k l.i

@@ -2,8 +2,8 @@
 use Rattle.forms.proofs.Listing.{grown_read, grown_full}
 use Rattle.forms.proofs.entries.listed.Goals as goal
 
-pub returns-in-Count : goal.returns-in-Count
-returns-in-Count c = λ list o w made. grown_read made w c.in-Count.is
+pub returns-in-Some : goal.returns-in-Some
+returns-in-Some c = λ list o w made. grown_read made w c.in-Some.is
 
-pub returns-in-Full : goal.returns-in-Full
-returns-in-Full c = λ list o w made. grown_full made c.in-Full.is
+pub returns-in-None : goal.returns-in-None
+returns-in-None c = λ list o w made. grown_full made c.in-None.is

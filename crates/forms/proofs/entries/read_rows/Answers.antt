@@ -5,7 +5,6 @@ use native.Mathlib.Omega.{arith}
 use lib.ListN.{length, length-set}
 use Rattle.words.specs.Words.{word}
 use Rattle.packing.specs.Packing.{unpacked, unpacked_row}
-use Rattle.tables.proofs.Tests.{both_true}
 use Rattle.lists.proofs.Holding.{run_turn}
 use Rattle.codec.proofs.Rows.{row_in}
 use Rattle.forms.proofs.PackedRows.{rows_most}
@@ -35,13 +34,7 @@ in_bytes c =
     omega (arith, (within c).0, room)
 
 pub loop-i-init : goal.loop-i-init
-loop-i-init c =
-    let a = c.args in (
-      omega arith,
-      (search rules),
-      rows_start a.l a.n a.b.now,
-      λ good m lt. absurd (not-suc-le-zero lt),
-    )
+loop-i-init c = let a = c.args in (search rules, rows_start a.l a.n a.b.now, λ m lt. absurd (not-suc-le-zero lt))
 
 pub overflow_mul-at : goal.overflow_mul-at
 overflow_mul-at c = let w = within (goal.at.overflow_mul-at c).In-loop-i in search (rules, w)
@@ -52,38 +45,41 @@ overflow_add-at c = let w = within (goal.at.overflow_add-at c).In-loop-i in sear
 pub overflow_add-at-in-loop-i : goal.overflow_add-at-in-loop-i
 overflow_add-at-in-loop-i c = let w = within (goal.at.overflow_add-at-in-loop-i c).In-loop-i in search (rules, w)
 
-pub unpack-read-requires : goal.unpack-read-requires
-unpack-read-requires c =
+pub unpack-requires : goal.unpack-requires
+unpack-requires c =
     let a = c.args in (
       c.table-table.ensures,
       c.requires.0,
       part_length a.l a.b.now c.loop-i.i c.row_length-k.ensures
-          (in_bytes (goal.at.unpack-read-requires c).In-loop-i),
+          (in_bytes (goal.at.unpack-requires c).In-loop-i),
     )
+
+pub returns-in_default-clause-clean : goal.returns-in_default-clause-clean
+returns-in_default-clause-clean c =
+    let a = c.args in
+    let lp = c.loop-i in
+    let part = row_part a.l a.b.now lp.i c.row_length-k.ensures in
+    let told = row_told a.l (row_at a.l a.b.now lp.i) (c.in_default.ensures ∙ ap (unpacked_row a.l) part) in
+    sym (rows_tested a.l a.n a.b.now lp.i c.loop-i-test.true lp.invariant.1 ∙ rw told)
 
 pub loop-i-preserved : goal.loop-i-preserved
 loop-i-preserved c =
     let a = c.args in
     let lp = c.loop-i in
     let part = row_part a.l a.b.now lp.i c.row_length-k.ensures in
-    let told = row_told a.l (row_at a.l a.b.now lp.i)
-    (c.unpack-read.ensures ∙ ap (unpacked_row a.l) part) in (
-      omega arith,
-      length-set lp.row lp.i _ ∙ lp.invariant.1,
-      rw told.0
-          (rows_tested a.l a.n a.b.now lp.i lp.good c.loop-i-test.true lp.invariant.2),
-      λ good.
-          let both = both_true lp.good c.unpack-read.result.good good in
-          run_turn lp.row (λ m. word (unpacked a.l (row_at a.l a.b.now m))) lp.i _
-          (omega (arith, lp.invariant.1)) (lp.invariant.3 both.0) (c.word_of.ensures.strings _ (told.1 both.1)),
+    let told = row_told a.l (row_at a.l a.b.now lp.i) (c.in-Some.ensures ∙ ap (unpacked_row a.l) part) in (
+      length-set lp.row lp.i _ ∙ lp.invariant.0,
+      rows_tested a.l a.n a.b.now lp.i c.loop-i-test.true lp.invariant.1 ∙ rw told.0,
+      run_turn lp.row (λ m. word (unpacked a.l (row_at a.l a.b.now m))) lp.i _ (omega (arith, lp.invariant.0)) lp.invariant.2
+          (c.word_of.ensures.strings _ told.1),
     )
 
 pub returns : goal.returns
 returns c =
     let a = c.args in
     let lp = c.loop-i in
-    let told = sym (rows_ended a.l a.n a.b.now lp.i lp.good (omega arith) lp.invariant.2) in record {
-      clean = told;
+    let told = rows_ended a.l a.n a.b.now lp.i (omega arith) lp.invariant.1 in record {
+      clean = sym told;
       made = λ good. rows_hold a.l a.n a.b.now lp.row c.requires.0 c.requires.1 c.requires.2
-          lp.invariant.1 (λ m lt. lp.invariant.3 good m (omega arith));
+          lp.invariant.0 (λ m lt. lp.invariant.2 m (omega arith));
     }

@@ -1,8 +1,9 @@
 use mathlib.Core.Path.{◌≡◌, refl, ◌∙◌}
 use mathlib.Core.List.{[]}
-use Prim.Native.Nat.{ℕ, ◌+◌, ◌*◌, ◌≤◌}
+use Prim.Native.Nat.{ℕ, ◌+◌, ◌*◌, ◌≤◌, ◌<◌}
 use native.Mathlib.Omega.{arith}
 use lib.ListN.{length, get_or}
+use Rattle.std.proofs.lemmas.List.{get_or-take, length-take}
 use Rattle.tables.specs.Values.{table_of}
 use Rattle.lists.proofs.Holding.{holds_length}
 use Rattle.codec.specs.Numbers.{WordSize, joined}
@@ -11,7 +12,6 @@ use Rattle.forms.specs.declared.Layout.TheVariants.{Plain}
 use Rattle.forms.specs.TableForms.{word_length, form_length}
 use Rattle.forms.proofs.WordLengths.{two_or_four, words_most, words_room}
 use Rattle.forms.proofs.Writing.{table_words, table_long, columns_turn, columns_end}
-use borrow.Author.Rules.{rules}
 use Rattle.forms.proofs.entries.write_plain.Goals as goal
 use Rattle.forms.proofs.entries.write_plain.Goals.{After-word_length-k, In-loop-i}
 
@@ -31,20 +31,14 @@ within : (c : In-loop-i) → let k = c.word_length-k.result in
 within c =
     let lp = c.loop-i in
     let r = room c.args.l c.args.n c.word_length-k.ensures c.requires in (
-      row_in c.word_length-k.result c.args.n lp.i c.loop-i-test.true,
+      row_in c.word_length-k.result c.args.n lp.i (omega (arith, length-take c.args.n c.args.list.now)),
       r.0,
-      omega (arith, r.1, lp.invariant.1),
+      omega (arith, r.1, lp.invariant.0),
     )
-
-pub overflow_mul-values : goal.overflow_mul-values
-overflow_mul-values c = let r = room c.args.l c.args.n c.word_length-k.ensures c.requires in search (rules, r)
-
-pub overflow_add-values : goal.overflow_add-values
-overflow_add-values c = let r = room c.args.l c.args.n c.word_length-k.ensures c.requires in search (rules, r)
 
 pub loop-i-init : goal.loop-i-init
 unfolding joined
-loop-i-init c = (omega arith, refl, λ τ h. refl)
+loop-i-init c = (refl, λ τ h. refl)
 
 pub write_word-requires : goal.write_word-requires
 write_word-requires c = (
@@ -62,22 +56,22 @@ pub loop-i-preserved : goal.loop-i-preserved
 loop-i-preserved c =
     let lp = c.loop-i in
     let a = c.args in
-    let lt = c.loop-i-test.true in (
-      omega arith,
-      c.write_word-in-loop-i.auto.b ∙ c.write_word.auto.b ∙ lp.invariant.1,
+    let ws = a.list.now in
+    let lt : lp.i < a.n = omega (arith, length-take a.n ws) in (
+      c.write_word-in-loop-i.auto.b ∙ c.write_word.auto.b ∙ lp.invariant.0,
       λ τ h.
           let long = holds_length h lp.i lt in
           let is = c.entry_of-e.ensures.strings (get_or τ lp.i []) (rw long h.short)
-          (h.here lp.i lt) in
+          (get_or-take a.n ws lp.i 0 lt ∙ h.here lp.i lt) in
           let w = table_words h lp.i lt is in
           let t = table_of a.l τ in
           columns_turn c.word_length-k.result a.n t.care t.value a.out.now lp.out lp.i lt
-          (table_long h).0 (table_long h).1 (lp.invariant.2 τ h) w.0 w.1 c.write_word.ensures
+          (table_long h).0 (table_long h).1 (lp.invariant.1 τ h) w.0 w.1 c.write_word.ensures
           c.write_word-in-loop-i.ensures,
     )
 
 pub returns : goal.returns
 returns c =
     let lp = c.loop-i in
-    let end : lp.i ≡ c.args.n = omega arith in
-    λ τ h. columns_end c.args.out.now lp.out h c.word_length-k.ensures end (lp.invariant.2 τ h)
+    let end : lp.i ≡ c.args.n = omega (arith, length-take c.args.n c.args.list.now) in
+    λ τ h. columns_end c.args.out.now lp.out h c.word_length-k.ensures end (lp.invariant.1 τ h)

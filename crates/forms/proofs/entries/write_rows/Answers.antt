@@ -1,19 +1,17 @@
-use mathlib.Core.Path.{◌≡◌, refl, ap, ◌∙◌}
+use mathlib.Core.Path.{◌≡◌, refl, ◌∙◌}
 use mathlib.Core.List.{[]}
-use Prim.Native.Nat.{ℕ, ◌+◌, ◌*◌, ◌≤◌}
+use Prim.Native.Nat.{ℕ, ◌+◌, ◌*◌, ◌≤◌, ◌<◌}
 use native.Mathlib.Omega.{arith}
 use lib.ListN.{get_or}
-use lib.Seq.{take_all, sets}
+use Rattle.std.proofs.lemmas.List.{get_or-take, length-take}
 use Rattle.model.specs.Growth.{Entries}
 use Rattle.words.specs.Words.{string, Encodes}
 use Rattle.lists.specs.WorkingLists.{Holds}
 use Rattle.lists.proofs.Holding.{holds_length}
-use Rattle.forms.specs.TableForms.{rows_of}
 use Rattle.codec.specs.Numbers.{joined}
 use Rattle.codec.proofs.Rows.{row_in}
 use Rattle.forms.proofs.PackedRows.{rows_most, rows_turn}
 use Rattle.forms.proofs.Writing.{entry_encodes}
-use borrow.Author.Rules.{rules}
 use Rattle.forms.proofs.entries.write_rows.Goals as goal
 use Rattle.forms.proofs.entries.write_rows.Goals.{After-entry_of-e, In-loop-i}
 
@@ -30,7 +28,7 @@ within : (c : In-loop-i)
 within c =
     let h = c.requires.0.1 in
     let n = c.args.n in
-    let here = row_in (size c) n c.loop-i.i c.loop-i-test.true in
+    let here = row_in (size c) n c.loop-i.i (omega (arith, length-take n c.args.list.now)) in
     let few : n ≤ 256 = omega (arith, h.count, h.good.few) in
     (omega (arith, here), rows_most h.short few c.row_length-k.ensures, few)
 
@@ -40,25 +38,15 @@ encoded : (c : After-entry_of-e) → let a = c.args in
     → Encodes a.l c.entry_of-e.result × (string a.l c.entry_of-e.result ≡ get_or τ c.loop-i.i [])
 encoded c τ h =
     let i = c.loop-i.i in
-    let lt = c.loop-i-test.true in
+    let ws = c.args.list.now in
+    let lt : i < c.args.n = omega (arith, length-take c.args.n ws) in
     let long = holds_length h i lt in
-    entry_encodes long (c.entry_of-e.ensures.strings (get_or τ i []) (rw long h.short) (h.here i lt))
-
-pub row_length-k-requires : goal.row_length-k-requires
-row_length-k-requires c = c.requires.0.1.short
+    entry_encodes long
+    (c.entry_of-e.ensures.strings (get_or τ i []) (rw long h.short) (get_or-take c.args.n ws i 0 lt ∙ h.here i lt))
 
 pub loop-i-init : goal.loop-i-init
 unfolding joined
-loop-i-init c = (omega arith, refl, λ τ h. refl)
-
-pub bounds-list-i : goal.bounds-list-i
-bounds-list-i c = let w = within (goal.at.bounds-list-i c).In-loop-i in search (rules, w)
-
-pub overflow_mul-k : goal.overflow_mul-k
-overflow_mul-k c = let w = within (goal.at.overflow_mul-k c).In-loop-i in search (rules, w)
-
-pub overflow_add-k : goal.overflow_add-k
-overflow_add-k c = let w = within (goal.at.overflow_add-k c).In-loop-i in search (rules, w)
+loop-i-init c = (refl, λ τ h. refl)
 
 pub pack-requires : goal.pack-requires
 pack-requires c =
@@ -67,24 +55,16 @@ pack-requires c =
     let room = rw (← told) at c.requires.1 in (
       held.1.short,
       (encoded (goal.at.pack-requires c).After-entry_of-e held.0 held.1).0,
-      rw (← told) (omega (arith, (within (goal.at.pack-requires c).In-loop-i).0, room, c.loop-i.invariant.1)),
+      rw (← told) (omega (arith, (within (goal.at.pack-requires c).In-loop-i).0, room, c.loop-i.invariant.0)),
     )
 
 pub loop-i-preserved : goal.loop-i-preserved
 loop-i-preserved c =
     let lp = c.loop-i in
     let a = c.args in (
-      omega arith,
-      c.pack.auto.b ∙ lp.invariant.1,
+      c.pack.auto.b ∙ lp.invariant.0,
       λ τ h.
           c.pack.ensures
           ∙ rw (c.row_length-k.ensures, (encoded (goal.at.loop-i-preserved c).After-entry_of-e τ h).1)
-          (rows_turn a.l τ a.out.now lp.out lp.i h.good.wide (omega (arith, h.count)) (lp.invariant.2 τ h)),
+          (rows_turn a.l τ a.out.now lp.out lp.i h.good.wide (omega (arith, h.count)) (lp.invariant.1 τ h)),
     )
-
-pub returns : goal.returns
-returns c =
-    let lp = c.loop-i in
-    let out₀ = c.args.out.now in
-    λ τ h. lp.invariant.2 τ h
-    ∙ ap (λ (ρ : Entries). sets out₀ 4 (rows_of ρ)) (take_all lp.i τ (omega (arith, h.count)))

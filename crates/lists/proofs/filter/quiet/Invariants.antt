@@ -1,6 +1,6 @@
 -- Loop: none of the entries from j up to i stirs y (`quiet_more`).
 use mathlib.Core.Path.{◌≡◌}
-use Prim.Native.Nat.{ℕ, ◌-◌, ◌≤◌}
+use Prim.Native.Nat.{ℕ}
 use lib.Dec.{T}
 use Rattle.model.specs.Strings.{Trits, subsumes}
 use Rattle.words.specs.Words.{care_of}
@@ -9,8 +9,5 @@ use Rattle.lists.specs.Filters.{QuietFrom}
 use Rattle.lists.proofs.filter.quiet.Given as goal
 
 abbrev pub invariant-loop-i : goal.invariant-loop-i
-invariant-loop-i v = (v.j ≤ v.i)
-    × ((l : ℕ) → OfString l v.list v.n v.y (λ τ s. (z : Trits) → v.kept ≡ care_of z → T (subsumes z s) → QuietFrom τ s z v.j v.i))
-
-abbrev pub decreases-loop-i : goal.decreases-loop-i
-decreases-loop-i l = l.n - l.i
+invariant-loop-i v =
+    (l : ℕ) → OfString l v.list v.n v.y (λ τ s. (z : Trits) → v.kept ≡ care_of z → T (subsumes z s) → QuietFrom τ s z v.j v.i)

@@ -11,7 +11,6 @@ use Rattle.lists.proofs.growth.pack.Goals.{else-not-subsumes, then-not-subsumes}
 
 pub loop-i-init : goal.loop-i-init
 loop-i-init c = (
-  c.requires.0,
   omega arith,
   λ l τ s h e y f. packed_start h _ c.requires.0 (λ m lt. rw (sym (holds_under h s e y m (omega arith)) ∙ f m lt)),
 )
@@ -19,19 +18,21 @@ loop-i-init c = (
 pub loop-i-preserved : goal.loop-i-preserved
 loop-i-preserved c =
     let w = c.loop-i in (
-      omega arith,
       elim c.if-not-subsumes.branch [
         | then-not-subsumes v ↦ omega (arith, v.k-is)
         | else-not-subsumes v ↦ omega (arith, v.k-is)
       ],
       λ l τ s h e y f.
-          let p = w.invariant.2 l τ s h e y f in
+          let p = w.invariant.1 l τ s h e y f in
           let d = holds_length h w.i (omega arith) in
           let is = p.ahead w.i (omega arith) (omega arith) in
           let m = sym (c.subsumes.ensures.strings s (get_or τ w.i []) (e ∙ sym d) (rw e h.short) y is) in
           elim c.if-not-subsumes.branch [
-            | then-not-subsumes v ↦ rw v.k-is (packed_keep p w.invariant.1 (omega arith) (omega arith) d (ap not (m ∙ v.if-not-subsumes.true)))
-            | else-not-subsumes v ↦ rw v.k-is (packed_drop p w.invariant.1 (omega arith) _ (ap not (m ∙ v.if-not-subsumes.false)))
+            | then-not-subsumes v ↦
+                rw v.k-is
+                (packed_keep p w.invariant.0 (omega arith) (omega arith) d (ap not (m ∙ v.if-not-subsumes.true)))
+            | else-not-subsumes v ↦
+                rw v.k-is (packed_drop p w.invariant.0 (omega arith) _ (ap not (m ∙ v.if-not-subsumes.false)))
           ],
     )
 
@@ -39,5 +40,5 @@ pub returns : goal.returns
 returns c =
     let w = c.loop-i in record {
       within = omega arith;
-      made = λ l τ s h e y f. packed_remove s h (w.invariant.2 l τ s h e y f) (omega arith);
+      made = λ l τ s h e y f. packed_remove s h (w.invariant.1 l τ s h e y f) (omega arith);
     }

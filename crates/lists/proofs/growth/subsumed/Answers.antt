@@ -1,7 +1,7 @@
 use mathlib.Core.Path.{◌≡◌, refl, sym, ◌∙◌}
 use mathlib.Core.Bool.{Bool}
 use mathlib.Core.List.{List}
-use Prim.Native.Nat.{ℕ}
+use Prim.Native.Nat.{ℕ, ◌+◌, ◌*◌}
 use native.Mathlib.Omega.{arith}
 use lib.ListN.{get_or}
 use Rattle.model.specs.Growth.{subsumed}
@@ -21,26 +21,26 @@ pub returns-then-n-lt8 : goal.returns-then-n-lt8
 returns-then-n-lt8 c =
     let e = c.some_subsumes.ensures ∙ sym (scan_start some_scan _ _) in record { words = e; strings = of_strings e }
 
-pub loop-i-init : goal.loop-i-init
+pub loop-b-init : goal.loop-b-init
 unfolding some_from
-loop-i-init c = (omega arith, refl)
+loop-b-init c = refl
 
 pub returns-then-some_subsumes : goal.returns-then-some_subsumes
 returns-then-some_subsumes c =
-    let lp = c.loop-i in
-    let some = sym c.some_subsumes-in-loop-i.ensures ∙ c.if-some_subsumes.true in
-    let e = sym (block_found _ lp.i _ _ (omega arith) (omega arith) some) in
+    let lp = c.loop-b in
+    let some = sym c.some_subsumes-in-loop-b.ensures ∙ c.if-some_subsumes.true in
+    let e = sym (block_found _ (8 * lp.b) _ _ (omega arith) (omega arith) some) in
     record { words = e; strings = of_strings e }
 
-pub loop-i-preserved : goal.loop-i-preserved
-loop-i-preserved c =
-    let lp = c.loop-i in (
-      omega arith,
-      block_none _ lp.i _ (omega arith) lp.invariant.1 (sym c.some_subsumes-in-loop-i.ensures ∙ c.if-some_subsumes.false),
-    )
+pub loop-b-preserved : goal.loop-b-preserved
+loop-b-preserved c =
+    let lp = c.loop-b in
+    let next : 8 * (lp.b + 1) ≡ 8 * lp.b + 8 = omega arith in
+    rw next
+    (block_none _ (8 * lp.b) _ (omega arith) lp.invariant (sym c.some_subsumes-in-loop-b.ensures ∙ c.if-some_subsumes.false))
 
 pub returns : goal.returns
 returns c =
-    let lp = c.loop-i in
-    let e = c.some_subsumes-2.ensures ∙ block_last _ _ lp.i _ (omega arith) (omega arith) lp.invariant.1 in
+    let lp = c.loop-b in
+    let e = c.some_subsumes-2.ensures ∙ block_last _ _ (8 * lp.b) _ (omega arith) (omega arith) lp.invariant in
     record { words = e; strings = of_strings e }

@@ -1,7 +1,7 @@
 -- Loop: the words before i are those of the strings (`run_turn`).
 use mathlib.Core.Path.{◌≡◌}
 use mathlib.Core.List.{[]}
-use Prim.Native.Nat.{ℕ, ◌-◌, ◌≤◌, ◌<◌}
+use Prim.Native.Nat.{ℕ, ◌<◌}
 use lib.ListN.{length, get_or}
 use Rattle.model.specs.Growth.{Entries}
 use Rattle.words.specs.Words.{word}
@@ -9,8 +9,6 @@ use Rattle.tables.specs.Lists.{Stores}
 use Rattle.lists.proofs.values.load.Given as goal
 
 abbrev pub invariant-loop-i : goal.invariant-loop-i
-invariant-loop-i v = (v.i ≤ v.n) × (length v.list ≡ 256)
+invariant-loop-i v =
+    (length v.list ≡ 256)
     × ((l : ℕ) (τ : Entries) → Stores l v.care v.value v.n τ → (m : ℕ) → m < v.i → get_or v.list m 0 ≡ word (get_or τ m []))
-
-abbrev pub decreases-loop-i : goal.decreases-loop-i
-decreases-loop-i l = l.n - l.i

@@ -8,22 +8,20 @@ use Rattle.lists.proofs.TableValues.{column_start, column_turn, column_table}
 use Rattle.lists.proofs.values.table.Goals as goal
 
 pub loop-i-init : goal.loop-i-init
-loop-i-init c = (omega arith, λ τ h. (column_start _ τ, column_start _ τ))
+loop-i-init c = λ τ h. (column_start _ τ, column_start _ τ)
 
 pub loop-i-preserved : goal.loop-i-preserved
 loop-i-preserved c =
-    let lp = c.loop-i in (
-      omega arith,
-      λ τ h.
-          let w = lp.invariant.1 τ h in
-          let is = c.entry_of-e.ensures.strings (get_or τ lp.i []) (rw (holds_length h lp.i (omega arith)) h.short)
-          (h.here lp.i (omega arith)) in (
-            column_turn _ τ w.0 _ (omega arith) (ap (λ (e : Entry). e.care) is),
-            column_turn _ τ w.1 _ (omega arith) (ap (λ (e : Entry). e.value) is),
-          ),
+    let lp = c.loop-i in
+    λ τ h.
+    let w = lp.invariant τ h in
+    let is = c.entry_of-e.ensures.strings (get_or τ lp.i []) (rw (holds_length h lp.i (omega arith)) h.short)
+    (h.here lp.i (omega arith)) in (
+      column_turn _ τ w.0 _ (omega arith) (ap (λ (e : Entry). e.care) is),
+      column_turn _ τ w.1 _ (omega arith) (ap (λ (e : Entry). e.value) is),
     )
 
 pub returns : goal.returns
 returns c =
     let lp = c.loop-i in
-    λ τ h. let w = lp.invariant.1 τ h in column_table h.good.few h.count (omega arith) w.0 w.1
+    λ τ h. let w = lp.invariant τ h in column_table h.good.few h.count (omega arith) w.0 w.1

@@ -28,13 +28,15 @@ pub returns-in-Absorbed : goal.returns-in-Absorbed
 returns-in-Absorbed c =
     λ τ s h e y.
     let g = subst (Surveyed τ s) c.in-Absorbed.is (c.survey.ensures _ τ s h e y) in
-    (h, c.zero.ensures.words ∙ sym (fresh_absorbed _ τ s (guarded_idle τ s (nonzero (goal.at.returns-in-Absorbed c).After-survey s e y) g)))
+    let n = nonzero (goal.at.returns-in-Absorbed c).After-survey s e y in
+    (h, c.zero.ensures.words ∙ sym (fresh_absorbed _ τ s (guarded_idle τ s n g)))
 
 pub returns-in-Stays : goal.returns-in-Stays
 returns-in-Stays c =
     λ τ s h e y.
     let u = subst (Surveyed τ s) c.in-Stays.is (c.survey.ensures _ τ s h e y) in
-    (h, y ∙ ap word (sym (untouched_stays τ s u)) ∙ sym (fresh_new _ τ s (untouched_new τ s (nonzero (goal.at.returns-in-Stays c).After-survey s e y) u)))
+    let n = nonzero (goal.at.returns-in-Stays c).After-survey s e y in
+    (h, y ∙ ap word (sym (untouched_stays τ s u)) ∙ sym (fresh_new _ τ s (untouched_new τ s n u)))
 
 pub returns-in-Open : goal.returns-in-Open
 returns-in-Open c =

@@ -1,31 +1,16 @@
-use mathlib.Core.Path.{refl}
-use mathlib.Core.List.{[]}
 use native.Mathlib.Omega.{arith}
-use lib.ListN.{get_or}
-use Rattle.words.specs.Words.{set_word}
-use Rattle.lists.specs.Widening.{near_list, open_set}
-use Rattle.lists.proofs.NearEntries.{near_each}
-use Rattle.lists.proofs.WideningByPasses.{open_turn, open_end}
+use Rattle.lists.proofs.Passes.{opened, shades_start, shades_turn, shades_end}
 use Rattle.lists.proofs.widening.shade_set.Goals as goal
 
-pub loop-i-init : goal.loop-i-init
-unfolding set_word open_set
-loop-i-init c = (omega arith, λ τ s t g y z wide short long over. refl)
+pub loop-shade-init : goal.loop-shade-init
+loop-shade-init c = shades_start opened _ _ _ _
 
-pub loop-i-preserved : goal.loop-i-preserved
-loop-i-preserved c =
-    let w = c.loop-i in (
-      omega arith,
-      λ τ s t g y z wide short long over.
-          let at = near_each _ τ s wide w.i (omega (arith, g.count)) in
-          open_turn (near_list τ s) t w.found w.i (omega (arith, g.count))
-          (w.invariant.1 τ s t g y z wide short long over) _
-          (c.shade_openings-found.ensures.strings (get_or (near_list τ s) w.i []) s t at.0 long short (g.here w.i (omega arith)) y z
-          at.1 over),
-    )
+pub loop-shade-preserved : goal.loop-shade-preserved
+loop-shade-preserved c =
+    shades_turn opened c.loop-shade.invariant (omega arith) (omega arith) c.loop-shade-test.true
+    c.shade_openings-found.ensures.strings
 
 pub returns : goal.returns
 returns c =
-    λ τ s t g y z wide short long over.
-    let w = c.loop-i in
-    open_end (near_list τ s) t w.found w.i (omega (arith, g.count)) (w.invariant.1 τ s t g y z wide short long over)
+    let w = c.loop-shade in
+    shades_end opened w.invariant (omega arith) (omega arith) w.auto.shade-index-end c.loop-shade-test.false

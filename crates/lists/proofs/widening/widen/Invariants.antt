@@ -9,7 +9,8 @@ use Rattle.lists.proofs.WideningByPasses.{WidenedSoFar}
 use Rattle.lists.proofs.widening.widen.Given as goal
 
 abbrev pub invariant-loop-i : goal.invariant-loop-i
-invariant-loop-i l = (l.i ≤ l.l) × ((τ : Entries) (s : Trits) → Ready l.l l.list l.n l.k τ s → l.y ≡ word s → WidenedSoFar l.l τ s l.z l.i)
+invariant-loop-i l = (l.i ≤ l.l)
+    × ((τ : Entries) (s : Trits) → Ready l.l l.list l.n l.k τ s → l.y ≡ word s → WidenedSoFar l.l τ s l.z l.i)
 
 abbrev pub decreases-loop-i : goal.decreases-loop-i
 decreases-loop-i l = l.l - l.i

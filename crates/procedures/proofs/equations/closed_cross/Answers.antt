@@ -9,20 +9,20 @@ use Rattle.procedures.proofs.equations.closed_cross.Goals as goal
 
 pub close-requires : goal.close-requires
 close-requires c =
-    (within_count c.pairs.ensures.within c.in-Count.is, omega arith)
+    (within_count c.pairs.ensures.within c.in_ok-k.was, omega arith)
 
-pub returns-in-Count : goal.returns-in-Count
+pub returns : goal.returns
 unfolding closed_cross cross pairs_of
-returns-in-Count c =
+returns c =
     record {
       within = c.close.ensures.within;
-      made = λ α β h b. makes_then (c.pairs.ensures.made α β h b) close c.in-Count.is c.close.ensures.made;
+      made = λ α β h b. makes_then (c.pairs.ensures.made α β h b) close c.in_ok-k.was c.close.ensures.made;
     }
 
-pub returns-in-Full : goal.returns-in-Full
+pub returns-in_err-k : goal.returns-in_err-k
 unfolding closed_cross cross pairs_of
-returns-in-Full c =
-    record {
+returns-in_err-k c =
+    rw c.from_residual.ensures (record {
       within = tt;
-      made = λ α β h b. stops_then (c.pairs.ensures.made α β h b) close c.in-Full.is;
-    }
+      made = λ α β h b. stops_then (c.pairs.ensures.made α β h b) close c.in_err-k.was;
+    })

@@ -12,24 +12,24 @@ use Rattle.procedures.proofs.equations.having.Goals as goal
 
 pub change_side_lent-requires : goal.change_side_lent-requires
 change_side_lent-requires c =
-    (within_count c.grow.ensures.within c.in-Count.is, omega arith)
+    (within_count c.grow.ensures.within c.in_ok-n.was, omega arith)
 
-pub returns-in-Count : goal.returns-in-Count
+pub returns : goal.returns
 unfolding having_set
-returns-in-Count c =
+returns c =
     let small = c.ranges.m.fits in record {
       within = c.change_side_lent.ensures.within;
       made = λ τ k h e is.
           makes_then (c.grow.ensures.made τ (zeros k) h (zeros_length k ∙ e) (zeros_shl k small is)) (change_side _)
-          c.in-Count.is c.change_side_lent.ensures.made;
+          c.in_ok-n.was c.change_side_lent.ensures.made;
     }
 
-pub returns-in-Full : goal.returns-in-Full
+pub returns-in_err-n : goal.returns-in_err-n
 unfolding having_set
-returns-in-Full c =
-    let small = c.ranges.m.fits in record {
+returns-in_err-n c =
+    let small = c.ranges.m.fits in rw c.from_residual.ensures (record {
       within = tt;
       made = λ τ k h e is.
           stops_then (c.grow.ensures.made τ (zeros k) h (zeros_length k ∙ e) (zeros_shl k small is)) (change_side _)
-          c.in-Full.is;
-    }
+          c.in_err-n.was;
+    })

@@ -9,62 +9,62 @@ use Rattle.procedures.proofs.equations.negative_closed_cross.Goals as goal
 
 pub closed_cross-requires : goal.closed_cross-requires
 closed_cross-requires c = (
-  within_count c.having.ensures.within c.in-Count.is,
-  within_count c.having-in-Count.ensures.within c.in-Count-having.is,
+  within_count c.having.ensures.within c.in_ok-an.was,
+  within_count c.having-2.ensures.within c.in_ok-bn.was,
   omega arith,
 )
 
 pub change_side_lent-requires : goal.change_side_lent-requires
 change_side_lent-requires c =
-    (within_count c.closed_cross.ensures.within c.in-Count-closed_cross.is, c.requires.1)
+    (within_count c.closed_cross.ensures.within c.in_ok-n.was, c.requires.1)
 
-pub returns-in-Count-closed_cross : goal.returns-in-Count-closed_cross
+pub returns : goal.returns
 unfolding negative_closed_cross
-returns-in-Count-closed_cross c =
+returns c =
     record {
       within = c.change_side_lent.ensures.within;
       made = λ τ x t h ex et ix it.
           makes_then (c.having.ensures.made τ x h ex ix)
-          (λ A. having_set _ t τ >>= λ B. closed_cross A B >>= change_side _) c.in-Count.is
+          (λ A. having_set _ t τ >>= λ B. closed_cross A B >>= change_side _) c.in_ok-an.was
           (λ A p.
-          makes_then (c.having-in-Count.ensures.made τ t h et it) (λ B. closed_cross A B >>= change_side _) c.in-Count-having.is
+          makes_then (c.having-2.ensures.made τ t h et it) (λ B. closed_cross A B >>= change_side _) c.in_ok-bn.was
           (λ B q.
-          makes_then (c.closed_cross.ensures.made A B p q) (change_side _) c.in-Count-closed_cross.is
+          makes_then (c.closed_cross.ensures.made A B p q) (change_side _) c.in_ok-n.was
           c.change_side_lent.ensures.made));
     }
 
-pub returns-in-Full-closed_cross : goal.returns-in-Full-closed_cross
+pub returns-in_err-n : goal.returns-in_err-n
 unfolding negative_closed_cross
-returns-in-Full-closed_cross c =
-    record {
+returns-in_err-n c =
+    rw c.from_residual-in_err-n.ensures (record {
       within = tt;
       made = λ τ x t h ex et ix it.
           makes_then (c.having.ensures.made τ x h ex ix)
-          (λ A. having_set _ t τ >>= λ B. closed_cross A B >>= change_side _) c.in-Count.is
+          (λ A. having_set _ t τ >>= λ B. closed_cross A B >>= change_side _) c.in_ok-an.was
           (λ A p.
-          makes_then (c.having-in-Count.ensures.made τ t h et it) (λ B. closed_cross A B >>= change_side _) c.in-Count-having.is
-          (λ B q. stops_then (c.closed_cross.ensures.made A B p q) (change_side _) c.in-Full-closed_cross.is));
-    }
+          makes_then (c.having-2.ensures.made τ t h et it) (λ B. closed_cross A B >>= change_side _) c.in_ok-bn.was
+          (λ B q. stops_then (c.closed_cross.ensures.made A B p q) (change_side _) c.in_err-n.was));
+    })
 
-pub returns-in-Full-having : goal.returns-in-Full-having
+pub returns-in_err-bn : goal.returns-in_err-bn
 unfolding negative_closed_cross
-returns-in-Full-having c =
-    record {
+returns-in_err-bn c =
+    rw c.from_residual-in_err-bn.ensures (record {
       within = tt;
       made = λ τ x t h ex et ix it.
           makes_then (c.having.ensures.made τ x h ex ix)
-          (λ A. having_set _ t τ >>= λ B. closed_cross A B >>= change_side _) c.in-Count.is
+          (λ A. having_set _ t τ >>= λ B. closed_cross A B >>= change_side _) c.in_ok-an.was
           (λ A p.
-          stops_then (c.having-in-Count.ensures.made τ t h et it) (λ B. closed_cross A B >>= change_side _)
-          c.in-Full-having.is);
-    }
+          stops_then (c.having-2.ensures.made τ t h et it) (λ B. closed_cross A B >>= change_side _)
+          c.in_err-bn.was);
+    })
 
-pub returns-in-Full : goal.returns-in-Full
+pub returns-in_err-an : goal.returns-in_err-an
 unfolding negative_closed_cross
-returns-in-Full c =
-    record {
+returns-in_err-an c =
+    rw c.from_residual.ensures (record {
       within = tt;
       made = λ τ x t h ex et ix it.
           stops_then (c.having.ensures.made τ x h ex ix)
-          (λ A. having_set _ t τ >>= λ B. closed_cross A B >>= change_side _) c.in-Full.is;
-    }
+          (λ A. having_set _ t τ >>= λ B. closed_cross A B >>= change_side _) c.in_err-an.was;
+    })

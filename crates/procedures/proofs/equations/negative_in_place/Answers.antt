@@ -16,47 +16,47 @@ use Rattle.procedures.proofs.equations.negative_in_place.Goals as goal
 
 pub pairs-requires : goal.pairs-requires
 pairs-requires c = (
-  within_count c.lacking.ensures.within c.in-Count-lacking.is,
-  within_count c.negative_closed_cross.ensures.within c.in-Count.is,
+  within_count c.lacking.ensures.within c.in_ok-c.was,
+  within_count c.negative_closed_cross.ensures.within c.in_ok-k.was,
   omega arith,
 )
 
-pub returns-in-Count-lacking : goal.returns-in-Count-lacking
+pub returns : goal.returns
 unfolding pairs_of
-returns-in-Count-lacking c =
+returns c =
     record {
       within = c.pairs.ensures.within;
       made = λ τ x t h ex et ix it.
           rw (negative_regrouped _ x t τ)
           (makes_then (c.negative_closed_cross.ensures.made τ x t h ex et ix it)
-          (λ K. grow_all τ (ones (or x t)) >>= λ C. grow_all [] (meets_of C K)) c.in-Count.is
+          (λ K. grow_all τ (ones (or x t)) >>= λ C. grow_all [] (meets_of C K)) c.in_ok-k.was
           (λ K p.
           makes_then
           (c.lacking.ensures.made τ (or x t) h (or_length x t _ ex et) (rw (ix, it) (sym (set_word_or x t))))
-          (λ C. grow_all [] (meets_of C K)) c.in-Count-lacking.is
+          (λ C. grow_all [] (meets_of C K)) c.in_ok-c.was
           (λ C q. c.pairs.ensures.made C K q p)));
     }
 
-pub returns-in-Full-lacking : goal.returns-in-Full-lacking
-returns-in-Full-lacking c =
-    record {
+pub returns-in_err-c : goal.returns-in_err-c
+returns-in_err-c c =
+    rw c.from_residual-in_err-c.ensures (record {
       within = tt;
       made = λ τ x t h ex et ix it.
           rw (negative_regrouped _ x t τ)
           (makes_then (c.negative_closed_cross.ensures.made τ x t h ex et ix it)
-          (λ K. grow_all τ (ones (or x t)) >>= λ C. grow_all [] (meets_of C K)) c.in-Count.is
+          (λ K. grow_all τ (ones (or x t)) >>= λ C. grow_all [] (meets_of C K)) c.in_ok-k.was
           (λ K p.
           stops_then
           (c.lacking.ensures.made τ (or x t) h (or_length x t _ ex et) (rw (ix, it) (sym (set_word_or x t))))
-          (λ C. grow_all [] (meets_of C K)) c.in-Full-lacking.is));
-    }
+          (λ C. grow_all [] (meets_of C K)) c.in_err-c.was));
+    })
 
-pub returns-in-Full : goal.returns-in-Full
-returns-in-Full c =
-    record {
+pub returns-in_err-k : goal.returns-in_err-k
+returns-in_err-k c =
+    rw c.from_residual.ensures (record {
       within = tt;
       made = λ τ x t h ex et ix it.
           rw (negative_regrouped _ x t τ)
           (stops_then (c.negative_closed_cross.ensures.made τ x t h ex et ix it)
-          (λ K. grow_all τ (ones (or x t)) >>= λ C. grow_all [] (meets_of C K)) c.in-Full.is);
-    }
+          (λ K. grow_all τ (ones (or x t)) >>= λ C. grow_all [] (meets_of C K)) c.in_err-k.was);
+    })

@@ -9,39 +9,39 @@ use Rattle.procedures.proofs.equations.positive_closed_cross.Goals as goal
 
 pub closed_cross-requires : goal.closed_cross-requires
 closed_cross-requires c = (
-  within_count c.relevant_by_entry.ensures.within c.in-Count.is,
-  within_count c.relevant_by_entry-in-Count.ensures.within c.in-Count-relevant_by_entry.is,
+  within_count c.relevant_by_entry.ensures.within c.in_ok-an.was,
+  within_count c.relevant_by_entry-2.ensures.within c.in_ok-bn.was,
   omega arith,
 )
 
-pub returns-in-Count-relevant_by_entry : goal.returns-in-Count-relevant_by_entry
+pub returns : goal.returns
 unfolding positive_closed_cross
-returns-in-Count-relevant_by_entry c =
+returns c =
     record {
       within = c.closed_cross.ensures.within;
       made = λ τ x t h ex et ix it.
-          makes_then (c.relevant_by_entry.ensures.made τ x h ex ix) (λ A. relevant t τ >>= closed_cross A) c.in-Count.is
+          makes_then (c.relevant_by_entry.ensures.made τ x h ex ix) (λ A. relevant t τ >>= closed_cross A) c.in_ok-an.was
           (λ A p.
-          makes_then (c.relevant_by_entry-in-Count.ensures.made τ t h et it) (closed_cross A) c.in-Count-relevant_by_entry.is
+          makes_then (c.relevant_by_entry-2.ensures.made τ t h et it) (closed_cross A) c.in_ok-bn.was
           (λ B q. c.closed_cross.ensures.made A B p q));
     }
 
-pub returns-in-Full-relevant_by_entry : goal.returns-in-Full-relevant_by_entry
+pub returns-in_err-bn : goal.returns-in_err-bn
 unfolding positive_closed_cross
-returns-in-Full-relevant_by_entry c =
-    record {
+returns-in_err-bn c =
+    rw c.from_residual-in_err-bn.ensures (record {
       within = tt;
       made = λ τ x t h ex et ix it.
-          makes_then (c.relevant_by_entry.ensures.made τ x h ex ix) (λ A. relevant t τ >>= closed_cross A) c.in-Count.is
-          (λ A p. stops_then (c.relevant_by_entry-in-Count.ensures.made τ t h et it) (closed_cross A) c.in-Full-relevant_by_entry.is);
-    }
+          makes_then (c.relevant_by_entry.ensures.made τ x h ex ix) (λ A. relevant t τ >>= closed_cross A) c.in_ok-an.was
+          (λ A p. stops_then (c.relevant_by_entry-2.ensures.made τ t h et it) (closed_cross A) c.in_err-bn.was);
+    })
 
-pub returns-in-Full : goal.returns-in-Full
+pub returns-in_err-an : goal.returns-in_err-an
 unfolding positive_closed_cross
-returns-in-Full c =
-    record {
+returns-in_err-an c =
+    rw c.from_residual.ensures (record {
       within = tt;
       made = λ τ x t h ex et ix it.
           stops_then (c.relevant_by_entry.ensures.made τ x h ex ix) (λ A. relevant t τ >>= closed_cross A)
-          c.in-Full.is;
-    }
+          c.in_err-an.was;
+    })

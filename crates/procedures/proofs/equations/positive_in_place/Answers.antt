@@ -13,46 +13,46 @@ use Rattle.procedures.proofs.equations.positive_in_place.Goals as goal
 
 pub grow_each-requires : goal.grow_each-requires
 grow_each-requires c = (
-  within_count c.irrelevant_in_row.ensures.within c.in-Count.is,
+  within_count c.irrelevant_in_row.ensures.within c.in_ok-n.was,
   omega arith,
-  within_count c.positive_closed_cross.ensures.within c.in-Count-positive_closed_cross.is,
+  within_count c.positive_closed_cross.ensures.within c.in_ok-k.was,
 )
 
-pub returns-in-Count-positive_closed_cross : goal.returns-in-Count-positive_closed_cross
-returns-in-Count-positive_closed_cross c =
+pub returns : goal.returns
+returns c =
     record {
       within = c.grow_each.ensures.within;
       made = λ τ x t h ex et ix it.
           rw (positive_regrouped x t τ)
           (makes_then
           (c.irrelevant_in_row.ensures.made τ (or x t) h (or_length x t _ ex et) (rw (ix, it) (sym (set_word_or x t))))
-          (λ I. positive_closed_cross x t τ >>= grow_all I) c.in-Count.is
+          (λ I. positive_closed_cross x t τ >>= grow_all I) c.in_ok-n.was
           (λ I p.
-          makes_then (c.positive_closed_cross.ensures.made τ x t h ex et ix it) (grow_all I) c.in-Count-positive_closed_cross.is
+          makes_then (c.positive_closed_cross.ensures.made τ x t h ex et ix it) (grow_all I) c.in_ok-k.was
           (λ K q. c.grow_each.ensures.made I K p q)));
     }
 
-pub returns-in-Full-positive_closed_cross : goal.returns-in-Full-positive_closed_cross
-returns-in-Full-positive_closed_cross c =
-    record {
+pub returns-in_err-k : goal.returns-in_err-k
+returns-in_err-k c =
+    rw c.from_residual-in_err-k.ensures (record {
       within = tt;
       made = λ τ x t h ex et ix it.
           rw (positive_regrouped x t τ)
           (makes_then
           (c.irrelevant_in_row.ensures.made τ (or x t) h (or_length x t _ ex et) (rw (ix, it) (sym (set_word_or x t))))
-          (λ I. positive_closed_cross x t τ >>= grow_all I) c.in-Count.is
+          (λ I. positive_closed_cross x t τ >>= grow_all I) c.in_ok-n.was
           (λ I p.
           stops_then (c.positive_closed_cross.ensures.made τ x t h ex et ix it) (grow_all I)
-          c.in-Full-positive_closed_cross.is));
-    }
+          c.in_err-k.was));
+    })
 
-pub returns-in-Full : goal.returns-in-Full
-returns-in-Full c =
-    record {
+pub returns-in_err-n : goal.returns-in_err-n
+returns-in_err-n c =
+    rw c.from_residual.ensures (record {
       within = tt;
       made = λ τ x t h ex et ix it.
           rw (positive_regrouped x t τ)
           (stops_then
           (c.irrelevant_in_row.ensures.made τ (or x t) h (or_length x t _ ex et) (rw (ix, it) (sym (set_word_or x t))))
-          (λ I. positive_closed_cross x t τ >>= grow_all I) c.in-Full.is);
-    }
+          (λ I. positive_closed_cross x t τ >>= grow_all I) c.in_err-n.was);
+    })

@@ -10,18 +10,18 @@ write_table-requires c = (
   omega arith,
   c.requires.1,
   c.requires.2,
-  rw c.in-Accepted.is at c.requires.3,
+  rw c.in-Ok.is at c.requires.3,
 )
 
 pub write_refused-requires : goal.write_refused-requires
 write_refused-requires c =
-    (c.requires.0, c.requires.1, rw c.in-Refused.is at c.requires.3)
+    (c.requires.0, c.requires.1, rw c.in-Err.is at c.requires.3)
 
-pub returns-in-Accepted : goal.returns-in-Accepted
+pub returns-in-Ok : goal.returns-in-Ok
 unfolding equation_text
-returns-in-Accepted c =
-    rw c.in-Accepted.is c.write_table.ensures
+returns-in-Ok c =
+    rw c.in-Ok.is c.write_table.ensures
 
-pub returns-in-Refused : goal.returns-in-Refused
-returns-in-Refused c =
-    rw c.in-Refused.is c.write_refused.ensures
+pub returns-in-Err : goal.returns-in-Err
+returns-in-Err c =
+    rw c.in-Err.is c.write_refused.ensures

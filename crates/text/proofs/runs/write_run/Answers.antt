@@ -1,6 +1,7 @@
 use mathlib.Core.Path.{◌∙◌}
 use native.Mathlib.Omega.{arith}
 use Rattle.equation_forms.specs.declared.Left.TheVariants.{Variable}
+use Rattle.tables.proofs.Checking.{accepted_unless}
 use Rattle.text.specs.Lines.{vars}
 use Rattle.text.proofs.Blocks.{block_most}
 use Rattle.text.proofs.RunByEquations.{so_far_start, so_far_end, so_far_room, so_far_step, so_far_stop, good_next}
@@ -47,18 +48,18 @@ stopped-requires c =
     let on = c.loop-pass.invariant.run.on in
     omega (arith, on.within, on.all, on.sizes.few)
 
-pub shape_of-out-in-Refused : goal.shape_of-out-in-Refused
-shape_of-out-in-Refused c =
+pub shape_of-out-in-Err : goal.shape_of-out-in-Err
+shape_of-out-in-Err c =
     c.write_equation-end.auto.out ∙ c.loop-pass.invariant.text.kept ∙ c.write_first-end.auto.out
 
-pub returns-in-Refused : goal.returns-in-Refused
-returns-in-Refused c =
+pub returns-in-Err : goal.returns-in-Err
+returns-in-Err c =
     let a = c.args in
     let first = c.write_first-end.ensures in
     let told = c.write_equation-end.ensures in
     let stop = so_far_stop a.pass a.q.now a.t _ _ c.loop-pass.invariant
     (c.more.ensures.0 c.loop-pass-test.true) c.step-a.ensures told.1 told.0
-    c.in-Refused.is in
+    c.in-Err.is in
     let all = all_written a.pass a.out.now a.t _ c.requires.2 first.1 first.0 stop.1 in
     (rw (c.stopped.ensures, c.refusal_number.ensures, all.0, stop.0), all.1)
 
@@ -77,7 +78,7 @@ loop-pass-preserved c =
     let told = c.write_equation-end.ensures in
     rw c.next-c.ensures
     (so_far_step a.pass a.q.now a.t _ _ c.loop-pass.invariant (c.more.ensures.0 c.loop-pass-test.true)
-    c.step-a.ensures told.1 told.0 c.in-Accepted.is)
+    c.step-a.ensures told.1 told.0 (accepted_unless _ c.in_default.not-Err))
 
 pub stopped-requires-2 : goal.stopped-requires-2
 stopped-requires-2 c =
