@@ -19,6 +19,7 @@ ghost use Rattle.running.specs.States.{started, step_number, advanced, run_state
 
 use equation_forms::Left;
 use forms::{Extent, Layout};
+use operations::Side;
 use running::Running;
 
 // Reads a form, which grows its entries, and writes it again.
@@ -63,10 +64,7 @@ pub extern "C" fn sharing_change_side(side: u32, table: &[u8], out: &mut [u8]) -
     ensures number { result ≡ output_number (change_side_bytes (side_numbered side) table.now) out.old }
     ensures bytes { out.new ≡ output_bytes (change_side_bytes (side_numbered side) table.now) out.old }
 {
-    byte_calls::outputs::write(
-        byte_calls::change_side(operations::side_numbered(side), table),
-        out,
-    )
+    byte_calls::outputs::write(byte_calls::change_side(Side::from(side), table), out)
 }
 
 // Applies one equation, Xvariable = the term of the bytes.
@@ -83,7 +81,7 @@ pub extern "C" fn sharing_equation(
         ≡ output_bytes (equation_bytes (side_numbered side) table.now variable term.now) out.old }
 {
     byte_calls::outputs::write(
-        byte_calls::equation(operations::side_numbered(side), table, variable, term),
+        byte_calls::equation(Side::from(side), table, variable, term),
         out,
     )
 }
@@ -103,10 +101,7 @@ pub extern "C" fn sharing_unify(
         ≡ output_bytes (unify_bytes (side_numbered side) table.now left.now right.now)
         out.old }
 {
-    byte_calls::outputs::write(
-        byte_calls::unify(operations::side_numbered(side), table, left, right),
-        out,
-    )
+    byte_calls::outputs::write(byte_calls::unify(Side::from(side), table, left, right), out)
 }
 
 // Joins two tables of one side.
@@ -115,10 +110,7 @@ pub extern "C" fn sharing_join(side: u32, first: &[u8], second: &[u8], out: &mut
     ensures number { result ≡ output_number (join_bytes (side_numbered side) first.now second.now) out.old }
     ensures bytes { out.new ≡ output_bytes (join_bytes (side_numbered side) first.now second.now) out.old }
 {
-    byte_calls::outputs::write(
-        byte_calls::join(operations::side_numbered(side), first, second),
-        out,
-    )
+    byte_calls::outputs::write(byte_calls::join(Side::from(side), first, second), out)
 }
 
 // Projects a table onto a set of variables, bit i - 1 for Xi.
@@ -127,10 +119,7 @@ pub extern "C" fn sharing_project(side: u32, table: &[u8], keep: u32, out: &mut 
     ensures number { result ≡ output_number (projection_bytes (side_numbered side) table.now keep) out.old }
     ensures bytes { out.new ≡ output_bytes (projection_bytes (side_numbered side) table.now keep) out.old }
 {
-    byte_calls::outputs::write(
-        byte_calls::project(operations::side_numbered(side), table, keep),
-        out,
-    )
+    byte_calls::outputs::write(byte_calls::project(Side::from(side), table, keep), out)
 }
 
 // Are two tables of one side equal in groups? 1 for yes, 0 for no.
@@ -149,7 +138,7 @@ pub extern "C" fn sharing_ground(side: u32, table: &[u8], variable: u32, answer:
     ensures word { answer.new ≡ reply_word (ground_bytes (side_numbered side) table.now variable) answer.old }
 {
     byte_calls::outputs::reply(
-        byte_calls::ground(operations::side_numbered(side), table, variable),
+        byte_calls::ground(Side::from(side), table, variable),
         answer,
     )
 }
@@ -168,7 +157,7 @@ pub extern "C" fn sharing_independent(
         ≡ reply_word (independent_bytes (side_numbered side) table.now first second) answer.old }
 {
     byte_calls::outputs::reply(
-        byte_calls::independent(operations::side_numbered(side), table, first, second),
+        byte_calls::independent(Side::from(side), table, first, second),
         answer,
     )
 }
@@ -243,9 +232,7 @@ pub extern "C" fn sharing_step(state: &mut Running, variable: u32, term: &[u8]) 
     ensures { (state.new ≡ advanced state.old (one_term variable term.now))
         × (result ≡ step_number state.old (one_term variable term.now)) }
 {
-    let stepped = running::advance(*state, variable, term);
-    *state = stepped.state;
-    stepped.number
+    tables::answer_number(running::advance(state, variable, term))
 }
 
 // Sets two terms equal in a running analysis; a refusal leaves the whole state as it was.
@@ -254,9 +241,7 @@ pub extern "C" fn sharing_unify_step(state: &mut Running, left: &[u8], right: &[
     ensures { (state.new ≡ advanced state.old (two_terms left.now right.now))
         × (result ≡ step_number state.old (two_terms left.now right.now)) }
 {
-    let unified = running::unify(*state, left, right);
-    *state = unified.state;
-    unified.number
+    tables::answer_number(running::unify(state, left, right))
 }
 
 // Writes the table of a running analysis.

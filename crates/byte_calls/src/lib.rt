@@ -5,7 +5,7 @@ pub mod outputs; // what a call hands back: number, form, word, part
 
 ghost use Rattle.std.specs.Prelude.{◌≡◌, Ok, Err};
 ghost use Rattle.tables.specs.Refusals.{Accepted};
-ghost use Rattle.tables.specs.Values.{parts, GoodTable};
+ghost use Rattle.tables.specs.Values.{GoodTable};
 ghost use Rattle.lists.specs.Comings.{Bounded};
 ghost use Rattle.operations.specs.Operations.{side_of, convert_call, equation_call, unify_call, CameOf};
 ghost use Rattle.forms.specs.TableForms.{read_form};
@@ -34,52 +34,44 @@ fn check_bytes(term: &[u8]) -> Result<(), Refusal>
     Ok(())
 }
 
-// The equation Xx = the term of the bytes, short enough and of even length, on the parts of a checked table. Most terms are
-// short: a small array is enough for them.
-fn equation_tokens<'a>(
+// The equation Xx = the term of the bytes, short enough and of even length, on a checked table. Most terms are short: a small
+// array is enough for them.
+fn equation_tokens(
     side: Side,
-    l: u32,
-    n: usize,
-    care: &'a [u32; 256],
-    value: &'a [u32; 256],
+    t: &Table,
     x: u32,
     term: &[u8],
     list: &mut [u64; 256],
 ) -> Result<Came, Refusal>
-    requires { GoodTable (parts l n care.now value.now) × (check_bytes term.now ≡ Accepted) }
+    requires { GoodTable t.now × (check_bytes term.now ≡ Accepted) }
     ensures bounded { Bounded result }
-    ensures comes { CameOf (parts l n care.now value.now) list.new result (λ t.
-        equation_call (side_of side) t x (tokens_of term.now)) }
+    ensures comes { CameOf t.now list.new result (λ t. equation_call (side_of side) t x (tokens_of term.now)) }
 {
     let k = term.len() / 2;
     if k <= codec::FEW {
         let few = codec::tokens_at::<{ codec::FEW }>(term, 0, k);
         let short: &[u16] = &few;
-        return operations::equation_parts(side, l, n, care, value, x, &short[..k], list);
+        return operations::equation_parts(side, t, x, &short[..k], list);
     }
     let row = codec::tokens_at::<{ codec::TOKENS }>(term, 0, k);
     let tokens: &[u16] = &row;
-    operations::equation_parts(side, l, n, care, value, x, &tokens[..k], list)
+    operations::equation_parts(side, t, x, &tokens[..k], list)
 }
 
-// The equation Xx = the term of the bytes, on the parts of a table value, with the list to make lent.
-pub fn equation_parts<'a>(
+// The equation Xx = the term of the bytes, on a table value that is lent, with the list to make.
+pub fn equation_parts(
     side: Side,
-    l: u32,
-    n: usize,
-    care: &'a [u32; 256],
-    value: &'a [u32; 256],
+    t: &Table,
     x: u32,
     term: &[u8],
     list: &mut [u64; 256],
 ) -> Result<Came, Refusal>
     ensures bounded { Bounded result }
-    ensures comes { CameOf (parts l n care.now value.now) list.new result (λ t.
-        term_call (side_of side) t x term.now) }
+    ensures comes { CameOf t.now list.new result (λ t. term_call (side_of side) t x term.now) }
 {
-    tables::check_parts(l, n, care, value)?;
+    tables::check_parts(t)?;
     check_bytes(term)?;
-    equation_tokens(side, l, n, care, value, x, term, list)
+    equation_tokens(side, t, x, term, list)
 }
 
 // The equation Xx = the term of the bytes, on a table value.
@@ -87,7 +79,7 @@ pub fn equation_term(side: Side, t: Table, x: u32, term: &[u8]) -> Answered
     ensures { result ≡ term_call (side_of side) t x term.now }
 {
     let mut list = [0u64; 256];
-    let came = equation_parts(side, t.l, t.n, &t.care, &t.value, x, term, &mut list);
+    let came = equation_parts(side, &t, x, term, &mut list);
     lists::values::answered(t.l, t, came, &list)
 }
 
@@ -108,21 +100,17 @@ fn check_both_bytes(left: &[u8], right: &[u8]) -> Result<(), Refusal>
     Ok(())
 }
 
-// The terms of two rows of bytes, short enough and of even length, set equal on the parts of a checked table.
-fn unify_tokens<'a>(
+// The terms of two rows of bytes, short enough and of even length, set equal on a checked table.
+fn unify_tokens(
     side: Side,
-    l: u32,
-    n: usize,
-    care: &'a [u32; 256],
-    value: &'a [u32; 256],
+    t: &Table,
     left: &[u8],
     right: &[u8],
     list: &mut [u64; 256],
 ) -> Result<Came, Refusal>
-    requires { GoodTable (parts l n care.now value.now) × (check_both_bytes left.now right.now ≡ Accepted) }
+    requires { GoodTable t.now × (check_both_bytes left.now right.now ≡ Accepted) }
     ensures bounded { Bounded result }
-    ensures comes { CameOf (parts l n care.now value.now) list.new result (λ t.
-        unify_call (side_of side) t (tokens_of left.now) (tokens_of right.now)) }
+    ensures comes { CameOf t.now list.new result (λ t. unify_call (side_of side) t (tokens_of left.now) (tokens_of right.now)) }
 {
     let k = left.len() / 2;
     let m = right.len() / 2;
@@ -131,33 +119,29 @@ fn unify_tokens<'a>(
         let first: &[u16] = &few;
         let other = codec::tokens_at::<{ codec::FEW }>(right, 0, m);
         let second: &[u16] = &other;
-        return operations::unify_parts(side, l, n, care, value, &first[..k], &second[..m], list);
+        return operations::unify_parts(side, t, &first[..k], &second[..m], list);
     }
     let row = codec::tokens_at::<{ codec::TOKENS }>(left, 0, k);
     let lefts: &[u16] = &row;
     let others = codec::tokens_at::<{ codec::TOKENS }>(right, 0, m);
     let rights: &[u16] = &others;
-    operations::unify_parts(side, l, n, care, value, &lefts[..k], &rights[..m], list)
+    operations::unify_parts(side, t, &lefts[..k], &rights[..m], list)
 }
 
-// The terms of two rows of bytes set equal, on the parts of a table value, with the list to make lent.
-pub fn unify_parts<'a>(
+// The terms of two rows of bytes set equal, on a table value that is lent, with the list to make.
+pub fn unify_parts(
     side: Side,
-    l: u32,
-    n: usize,
-    care: &'a [u32; 256],
-    value: &'a [u32; 256],
+    t: &Table,
     left: &[u8],
     right: &[u8],
     list: &mut [u64; 256],
 ) -> Result<Came, Refusal>
     ensures bounded { Bounded result }
-    ensures comes { CameOf (parts l n care.now value.now) list.new result (λ t.
-        terms_call (side_of side) t left.now right.now) }
+    ensures comes { CameOf t.now list.new result (λ t. terms_call (side_of side) t left.now right.now) }
 {
-    tables::check_parts(l, n, care, value)?;
+    tables::check_parts(t)?;
     check_both_bytes(left, right)?;
-    unify_tokens(side, l, n, care, value, left, right, list)
+    unify_tokens(side, t, left, right, list)
 }
 
 // The terms of two rows of bytes set equal, on a table value.
@@ -165,7 +149,7 @@ pub fn unify_terms(side: Side, t: Table, left: &[u8], right: &[u8]) -> Answered
     ensures { result ≡ terms_call (side_of side) t left.now right.now }
 {
     let mut list = [0u64; 256];
-    let came = unify_parts(side, t.l, t.n, &t.care, &t.value, left, right, &mut list);
+    let came = unify_parts(side, &t, left, right, &mut list);
     lists::values::answered(t.l, t, came, &list)
 }
 

@@ -1,4 +1,5 @@
 // How the table or the reply of a call on byte buffers is handed back, and the two-buffer call. Inner: not a public call.
+// A `u32` that is returned here is the number that C is handed.
 ghost use Rattle.std.specs.Prelude.{◌≡◌};
 ghost use Rattle.tables.specs.declared.Answered.{Answered as AnsweredTable};
 ghost use Rattle.tables.specs.Values.{zero_table};
@@ -20,7 +21,7 @@ pub fn write_as(layout: Layout, a: Answered, out: &mut [u8]) -> u32
     ensures bytes { out.new ≡ output_bytes_as layout a out.old }
 {
     match a.answer {
-        Err(r) => tables::refusal_number(r),
+        Err(r) => u32::from(r),
         Ok(()) => tables::answer_number(forms::write(layout, a.table, out)),
     }
 }
@@ -40,9 +41,9 @@ pub fn write_came(
         × (out.new ≡ output_bytes_as layout a out.old) }
 {
     match came {
-        Err(r) => tables::refusal_number(r),
+        Err(r) => u32::from(r),
         // The table all zero has no variables.
-        Ok(Came::Same) => tables::refusal_number(Refusal::Width),
+        Ok(Came::Same) => u32::from(Refusal::Width),
         Ok(Came::Count(n)) => tables::answer_number(forms::write_list(layout, l, n, list, out)),
     }
 }
@@ -60,7 +61,7 @@ pub fn write_listed(
         × (out.new ≡ output_bytes_as layout a out.old) }
 {
     match listed {
-        Err(r) => tables::refusal_number(r),
+        Err(r) => u32::from(r),
         Ok(Sizes { l, n }) => tables::answer_number(forms::write_list(layout, l, n, list, out)),
     }
 }

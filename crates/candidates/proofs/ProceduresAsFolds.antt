@@ -9,7 +9,7 @@ use Rattle.model.specs.Tables.{meet_if, meets_with, meets_of, ors, close_with}
 use Rattle.model.proofs.Given.{fold_append}
 use Rattle.words.proofs.Digits.{nine, never}
 use Rattle.words.proofs.Words.{both_true}
-use Rattle.lists.proofs.BindLaws.{then_same, then_some}
+use Rattle.lists.proofs.BindLaws.{then_same}
 use Rattle.candidates.specs.declared.Pairing.{Pairing}
 use Rattle.candidates.specs.declared.Pairing.TheVariants.{Or, Meet}
 use Rattle.candidates.specs.Pairs.{row_of, pairs_of}
@@ -110,11 +110,6 @@ module _ (R : Entries) (c : Trits) where
   close_rows : close_with R c ≡ (grow_all R (row_of Or c R) >>= λ S. grow_all S (c ∷ []))
   unfolding close_with grow_all
   close_rows = rw (ors_row R c) (fold_append grow R (row_of Or c R) (c ∷ []))
-
-  -- the row, then c
-  pub close_row : close_with R c ≡ (grow_all R (row_of Or c R) >>= λ S. grow S c)
-  unfolding grow_all fold
-  close_row = rw close_rows (then_same (grow_all R (row_of Or c R)) (λ S. then_some (grow S c)))
 
   -- from what the row gives
   pub close_on : (S : Entries) → grow_all R (row_of Or c R) ≡ some S → close_with R c ≡ grow_all S (c ∷ [])

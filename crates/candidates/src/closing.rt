@@ -4,41 +4,31 @@ ghost use Rattle.std.proofs.Math.Option.{some};
 ghost use Rattle.model.specs.Growth.{Entries, fold};
 ghost use Rattle.model.specs.Tables.{close_with, close as close_list};
 ghost use Rattle.lists.specs.WorkingLists.{Holds, OfString, Within, Makes};
-ghost use Rattle.lists.specs.Filters.{Filters};
 
 use crate::Pairing;
+use lists::row_growth::{Filter, Growing, Plain};
 
-// One c of Close, on the list R: grows R by "r or c" for each r that R has before, then by c. `row` is room.
-fn close_one(list: &mut [u64; 256], n: usize, l: u32, c: u64, row: &mut [u64; 256]) -> Option<usize>
-    requires { (n ≤ 256) × (l ≤ 32) }
-    ensures within { Within result }
-    ensures made { OfString l list.old n c (λ τ s. Makes l list.new result (close_with τ s)) }
-{
-    let k = crate::rows::pair_row(Pairing::Or, list, n, c, row);
-    let m = lists::growth::grow_each(list, n, l, row, k)?;
-    lists::growth::grow(list, m, l, c)
-}
-
-// The same with a filter.
-fn close_unseen(
+// One c of Close, on the list R, in either way of growing by rows: R grows by "r or c" for each r that it has before, then by c.
+// `row` is room.
+fn close_one<G: Growing>(
+    growing: &mut G,
     list: &mut [u64; 256],
     n: usize,
     l: u32,
     c: u64,
     row: &mut [u64; 256],
-    seen: &mut [u64; lists::filter::SIZE],
 ) -> Option<usize>
     requires { (n ≤ 256) × (l ≤ 32) }
     ensures within { Within result }
     ensures made { OfString l list.old n c (λ τ s.
-        Filters l seen.old τ → Makes l list.new result (close_with τ s)) }
-    ensures filter { OfString l list.old n c (λ τ s.
-        (κ : Entries) → Filters l seen.old τ → close_with τ s ≡ some κ → Filters l seen.new κ) }
+        G.fits growing.old l τ → Makes l list.new result (close_with τ s)) }
+    ensures kept { OfString l list.old n c (λ τ s.
+        (κ : Entries) → G.fits growing.old l τ → close_with τ s ≡ some κ → G.fits growing.new l κ) }
 {
     let k = crate::rows::pair_row(Pairing::Or, list, n, c, row);
-    let m = lists::filter::grow_unseen(list, n, l, row, k, seen)?;
+    let m = growing.grow_row(list, n, l, row, k)?;
     row[0] = c;
-    lists::filter::grow_unseen(list, m, l, row, 1, seen)
+    growing.grow_row(list, m, l, row, 1)
 }
 
 // Close for each c of a list from an index on, with one filter.
@@ -56,10 +46,10 @@ fn close_rest(
     ensures made { (γ τ : Entries) → Holds l c.now cn γ → Holds l list.old n τ
         → Makes l list.new result (fold close_with τ (drop from γ)) }
 {
-    let mut seen = [words::zero(l); lists::filter::SIZE];
+    let mut filter = Filter::start(l);
     let mut k = n;
     for &s in &c[from..cn] {
-        k = close_unseen(list, k, l, s, row, &mut seen)?;
+        k = close_one(&mut filter, list, k, l, s, row)?;
     }
     Some(k)
 }
@@ -81,7 +71,7 @@ pub fn close(
         if 16 <= n {
             return close_rest(c, i, cn, l, list, n, row);
         }
-        n = close_one(list, n, l, c[i], row)?;
+        n = close_one(&mut Plain, list, n, l, c[i], row)?;
     }
     Some(n)
 }

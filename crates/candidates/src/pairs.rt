@@ -8,9 +8,11 @@ ghost use Rattle.lists.specs.WorkingLists.{Holds, Within, Makes};
 ghost use Rattle.candidates.specs.Pairs.{pairs_of};
 
 use crate::Pairing;
+use lists::row_growth::{Filter, Growing, Plain};
 
-// Grows an empty list by the candidates of each string of a with each of b, the first's outermost. `row` is room.
-fn pairs_plain(
+// Grows an empty list by the candidates of each string of a with each of b, the first's outermost, in either way of
+// growing by rows. `row` is room.
+fn pairs_by<G: Growing>(
     op: Pairing,
     a: &[u64; 256],
     an: usize,
@@ -25,35 +27,11 @@ fn pairs_plain(
     ensures made { (α β : Entries) → Holds l a.now an α → Holds l b.now bn β
         → Makes l list.new result (grow_all [] (pairs_of op α β)) }
 {
+    let mut growing = G::start(l);
     let mut n = 0;
     for &x in &a[..an] {
         let m = crate::rows::pair_row(op, b, bn, x, row);
-        n = lists::growth::grow_each(list, n, l, row, m)?;
-    }
-    Some(n)
-}
-
-// The same with one filter for all the rows.
-fn pairs_unseen(
-    op: Pairing,
-    a: &[u64; 256],
-    an: usize,
-    b: &[u64; 256],
-    bn: usize,
-    l: u32,
-    list: &mut [u64; 256],
-    row: &mut [u64; 256],
-) -> Option<usize>
-    requires { (an ≤ 256) × (bn ≤ 256) × (l ≤ 32) }
-    ensures within { Within result }
-    ensures made { (α β : Entries) → Holds l a.now an α → Holds l b.now bn β
-        → Makes l list.new result (grow_all [] (pairs_of op α β)) }
-{
-    let mut seen = [words::zero(l); lists::filter::SIZE];
-    let mut n = 0;
-    for &x in &a[..an] {
-        let m = crate::rows::pair_row(op, b, bn, x, row);
-        n = lists::filter::grow_unseen(list, n, l, row, m, &mut seen)?;
+        n = growing.grow_row(list, n, l, row, m)?;
     }
     Some(n)
 }
@@ -75,12 +53,13 @@ pub fn pairs(
         → Makes l list.new result (grow_all [] (pairs_of op α β)) }
 {
     if an * bn < 128 {
-        return pairs_plain(op, a, an, b, bn, l, list, row);
+        return pairs_by::<Plain>(op, a, an, b, bn, l, list, row);
     }
-    pairs_unseen(op, a, an, b, bn, l, list, row)
+    pairs_by::<Filter>(op, a, an, b, bn, l, list, row)
 }
 
-// The same as `relevant`, the list grown by the meets of one entry at a time. `row` is room.
+// The same as `relevant`, the list grown by the meets of one entry at a time, which needs no list of the strings met. `row` is
+// room.
 pub fn relevant_by_entry(
     t: &[u64; 256],
     tn: usize,

@@ -19,7 +19,7 @@ pub fn convert(list: &mut [u64; 256], l: u32, words: &[u32]) -> Option<usize>
     let full = words::full(l);
     let mut n = 0;
     for &w in words {
-        let y = words::word_of(Entry {
+        let y = u64::from(Entry {
             care: full,
             value: w,
         });

@@ -4,7 +4,7 @@ ghost use Rattle.std.specs.Prelude.{◌≡◌, true, false, not, ◌&&◌, ℕ, 
 ghost use Rattle.model.specs.Strings.{Trits, covers, matches, fixed};
 ghost use Rattle.model.specs.Growth.{covered as covered_list};
 ghost use Rattle.words.specs.Words.{word, opposed_word};
-ghost use Rattle.lists.specs.WorkingLists.{OfString};
+ghost use Rattle.lists.specs.WorkingLists.{OfWords};
 ghost use Rattle.covering.specs.Covering.{Narrows, Nearest, agreed as agreed_string, all_covered};
 
 // y with what each group has that y covers and v does not: where y lacks just one position of v, the opposite of v there,
@@ -26,13 +26,12 @@ fn narrowed_by(v: u64, y: u64) -> u64
 }
 
 // y with what each group has that y covers and no entry does, by one entry after another: one round of unit propagation.
-fn narrowed(list: &[u64; 256], n: usize, y: u64) -> u64
-    requires { n ≤ 256 }
+fn narrowed(list: &[u64], y: u64) -> u64
     ensures more { y ≤ result }
-    ensures strings { (l : ℕ) → OfString l list.now n y (λ τ s. Narrows (covered_list τ) s result) }
+    ensures strings { (l : ℕ) → OfWords l list.now y (λ τ s. Narrows (covered_list τ) s result) }
 {
     let mut x = y;
-    for &v in &list[..n] {
+    for &v in list {
         x = narrowed_by(v, x);
     }
     x
@@ -52,15 +51,14 @@ fn rank(v: u64, y: u64) -> Option<u32>
 
 // The index of a matching entry, if one matches. It is the one that leaves the fewest pieces of y, which is a matter of speed
 // alone.
-fn nearest(list: &[u64; 256], n: usize, y: u64) -> Option<usize>
-    requires { n ≤ 256 }
-    ensures bound { IfSome result (λ r. r < n) }
-    ensures strings { (l : ℕ) → OfString l list.now n y (λ τ s. Nearest τ s result) }
+fn nearest(list: &[u64], y: u64) -> Option<usize>
+    ensures bound { IfSome result (λ r. r < length list.now) }
+    ensures strings { (l : ℕ) → OfWords l list.now y (λ τ s. Nearest τ s result) }
 {
     // The best so far, and how many pieces it leaves.
     let mut best = None;
     let mut few = u32::MAX;
-    for (i, &v) in list[..n].iter().enumerate() {
+    for (i, &v) in list.iter().enumerate() {
         if let Some(k) = rank(v, y) {
             if k < few {
                 best = Some(i);
@@ -96,18 +94,18 @@ fn agreed(y: u64, v: u64, i: u32) -> u64
 // the field: y sharp v, disjoint), one for each position that is fixed in v and `*` in y: the opposite of v there, and v's
 // values before it. First comes what spares that: one entry that subsumes y; and unit propagation, which fixes the positions
 // that are forced without a split.
-pub fn covered(list: &[u64; 256], n: usize, l: u32, y: u64) -> bool
-    requires { (n ≤ 256) × (l ≤ 32) }
-    ensures { OfString l list.now n y (λ τ s. result ≡ all_covered l τ s) }
+pub fn covered(list: &[u64], l: u32, y: u64) -> bool
+    requires { l ≤ 32 }
+    ensures { OfWords l list.now y (λ τ s. result ≡ all_covered l τ s) }
 {
-    if lists::growth::subsumed(list, n, y) {
+    if lists::growth::subsumed(list, y) {
         return true;
     }
-    let x = narrowed(list, n, y);
+    let x = narrowed(list, y);
     if y < x {
-        return covered(list, n, l, x);
+        return covered(list, l, x);
     }
-    let Some(at) = nearest(list, n, y) else {
+    let Some(at) = nearest(list, y) else {
         return words::is_zero(l, y);
     };
     let v = list[at];
@@ -115,7 +113,7 @@ pub fn covered(list: &[u64; 256], n: usize, l: u32, y: u64) -> bool
     for i in 0..l {
         if splits(z, v, i) {
             let piece = words::opposed(z, v, i);
-            if !covered(list, n, l, piece) {
+            if !covered(list, l, piece) {
                 return false;
             }
             z = agreed(z, v, i);

@@ -9,7 +9,7 @@ ghost use Rattle.equation_forms.specs.EquationForms.{equations_length, most_equa
 
 use tables::Refusal;
 
-// What stands on the left of each equation of a form: a variable, or a term.
+// What stands on the left of each equation of a form: a variable, or a term. Contracts name it, which a closure has not.
 #[derive(Clone, Copy, Debug, PartialEq, Eq)]
 pub enum Left {
     Variable,
@@ -17,7 +17,7 @@ pub enum Left {
 }
 
 // A place among the e equations of a form: k equations and their `at` tokens stand before it.
-#[derive(Clone, Copy)]
+#[derive(Clone, Copy, Debug, PartialEq, Eq)]
 pub struct Cursor {
     pub e: usize,
     pub k: usize,
@@ -129,6 +129,7 @@ fn check_each(f: Left, l: u32, b: &[u8]) -> Result<(), Refusal>
     ensures { result ≡ check_each l (equations_in f b.now) }
 {
     let mut c = first(b);
+    // A `while`: the cursor moves on by the length of the equation that stands at it.
     while more(c) {
         check_this(f, l, c, b)?;
         c = next(f, c, b);

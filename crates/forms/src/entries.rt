@@ -56,7 +56,7 @@ fn grow_plain(l: u32, n: usize, b: &[u8], list: &mut [u64; 256]) -> Option<usize
     let whole: &[u64] = &*list;
     let mut k = 0;
     for i in 0..n {
-        let y = words::word_of(entry_at(l, n, b, i));
+        let y = u64::from(entry_at(l, n, b, i));
         k = lists::growth::grow(list, k, l, y)?;
     }
     Some(k)
@@ -75,7 +75,7 @@ fn read_rows(l: u32, n: usize, b: &[u8], row: &mut [u64; 256]) -> bool
         let Some(e) = packing::unpack(&table, l, &b[at..at + k]) else {
             return false;
         };
-        row[i] = words::word_of(e);
+        row[i] = u64::from(e);
     }
     true
 }
@@ -144,7 +144,7 @@ fn write_plain(l: u32, n: usize, list: &[u64; 256], out: &mut [u8])
     let k = word_length(l);
     let values = 4 + k * n;
     for (i, &y) in list[..n].iter().enumerate() {
-        let e = words::entry_of(y);
+        let e = Entry::from(y);
         codec::write_word(out, 4 + k * i, k, e.care);
         codec::write_word(out, values + k * i, k, e.value);
     }
@@ -157,7 +157,7 @@ fn write_rows(l: u32, n: usize, list: &[u64; 256], out: &mut [u8])
 {
     let k = packing::row_length(l);
     for (i, &y) in list[..n].iter().enumerate() {
-        let e = words::entry_of(y);
+        let e = Entry::from(y);
         packing::pack(l, e, out, 4 + k * i);
     }
 }
@@ -201,7 +201,7 @@ fn packed_table(l: u32, n: usize, b: &[u8]) -> Answered
     lists::values::made_or_full(l, Table::zero(), g, &list)
 }
 
-// The table of n written entries.
+// The table of n written entries. It stays beside `read_listed` for its promise, the zero table at a refusal.
 pub fn read(layout: Layout, l: u32, n: usize, b: &[u8]) -> Answered
     requires { (l ≤ 32) × (n ≤ 256) × (form_length layout l n ≤ length b.now) }
     ensures { result ≡ read_entries layout l n b.now }
@@ -212,7 +212,7 @@ pub fn read(layout: Layout, l: u32, n: usize, b: &[u8]) -> Answered
     }
 }
 
-// Writes the entries of a good table after the sizes.
+// Writes the entries of a good table after the sizes. It stays beside `write_listed` for its promise on a table value.
 pub fn write(layout: Layout, t: Table, out: &mut [u8])
     requires { GoodTable t × (form_length layout t.l t.n ≤ length out.old) }
     ensures { out.new ≡ sets out.old 4 (entry_bytes layout t) }
@@ -220,6 +220,6 @@ pub fn write(layout: Layout, t: Table, out: &mut [u8])
     let l = t.l;
     let n = t.n;
     let mut list = [0u64; 256];
-    lists::values::load(&t.care, &t.value, n, &mut list);
+    lists::values::load(&t, &mut list);
     write_listed(layout, l, n, &list, out)
 }

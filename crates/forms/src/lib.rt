@@ -23,7 +23,8 @@ pub enum Extent {
     Front,
 }
 
-// How a form has its entries: care and value words, or a row of bytes each, five positions to a byte.
+// How a form has its entries: care and value words, or a row of bytes each, five positions to a byte. Contracts name it
+// (`form_length`), which a closure has not.
 #[derive(Clone, Copy, Debug, PartialEq, Eq)]
 pub enum Layout {
     Plain,
@@ -31,7 +32,7 @@ pub enum Layout {
 }
 
 // What a form that was read into a list has: l variables, and n entries of the list.
-#[derive(Clone, Copy)]
+#[derive(Clone, Copy, Debug, PartialEq, Eq)]
 pub struct Sizes {
     pub l: u32,
     pub n: usize,
@@ -155,7 +156,7 @@ pub fn write(layout: Layout, t: Table, out: &mut [u8]) -> Result<(), Refusal>
     let l = t.l;
     let n = t.n;
     let mut list = [0u64; 256];
-    lists::values::load(&t.care, &t.value, n, &mut list);
+    lists::values::load(&t, &mut list);
     write_list(layout, l, n, &list, out)
 }
 

@@ -11,7 +11,8 @@ use Rattle.std.proofs.lemmas.List.{get_or-take, get_or-drop, length-take}
 use Rattle.model.specs.Growth.{Entries}
 use Rattle.words.specs.Words.{word}
 use Rattle.tables.proofs.Scans.{Scan, scan_turn, scan_end}
-use Rattle.lists.specs.WorkingLists.{Holds}
+use Rattle.tables.proofs.Arrays.{wide_at}
+use Rattle.lists.specs.WorkingLists.{Holds, WordsOf}
 
 -- ---- A scan of the part from index j up to e
 
@@ -49,3 +50,12 @@ module _ {l : ℕ} {list : List ℕ} {n : ℕ} {τ : Entries} (h : Holds l list 
   cut_here i lt =
       let here : i < n = omega (arith, cut_length) in
       get_or-take n list i 0 here ∙ h.here i here
+
+  -- the slice of them has the list's words
+  pub words_held : WordsOf l (take n list) τ
+  words_held = record { here = cut_here; count = cut_length ∙ h.count; good = h.good; short = h.short }
+
+-- each string of a list whose words a slice has has l positions
+pub words_length : {l : ℕ} {list : List ℕ} {τ : Entries} → WordsOf l list τ → (i : ℕ) → i < length list
+    → length (get_or τ i []) ≡ l
+words_length {l = l} {τ = τ} w i lt = wide_at l τ i w.good.wide (omega (arith, w.count))

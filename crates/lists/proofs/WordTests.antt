@@ -15,9 +15,10 @@ use Rattle.tables.specs.Lists.{any, some_from}
 use Rattle.tables.specs.Values.{all_from}
 use Rattle.tables.proofs.Arrays.{subsumed_any}
 use Rattle.tables.proofs.Checking.{all_at}
-use Rattle.lists.specs.WorkingLists.{Holds, Free}
+use Rattle.lists.specs.WorkingLists.{Holds, WordsOf, Free}
 use Rattle.words.proofs.Words.{word_subsumes}
 use Rattle.lists.proofs.Holding.{holds_length}
+use Rattle.lists.proofs.Slices.{words_length}
 use Rattle.lists.proofs.RowLoops.{along_end, cond_not, PackedSoFar}
 
 -- ---- Tests
@@ -51,6 +52,17 @@ module _ {l : ℕ} {list : List ℕ} {n : ℕ} {τ : Entries} (h : Holds l list 
       rw h.count
       (some_any _ (λ r. subsumes r s) τ 0 (λ m lt. rw (zero-add m) (holds_over m (omega (arith, h.count))))
       ∙ subsumed_any τ s)
+
+-- The same of a slice.
+pub words_subsumed : {l : ℕ} {list : List ℕ} {τ : Entries} → WordsOf l list τ → (s : Trits) → length s ≡ l → {y : ℕ} → y ≡ word s
+    → some_from 0 (length list) (λ i. subsumes_word (get_or list i 0) y) ≡ subsumed τ s
+words_subsumed {l} {list} {τ} w s e {y} is =
+    rw w.count
+    (some_any _ (λ r. subsumes r s) τ 0 (λ m lt.
+    let here : m < length list = omega (arith, w.count) in
+    let long = words_length w m here in
+    rw (zero-add m, is, w.here m here) (word_subsumes (get_or τ m []) s (long ∙ sym e) (rw long w.short)))
+    ∙ subsumed_any τ s)
 
 -- y subsumes none of the entries before k + n where it subsumes none before k and none of the n from there on
 pub free_more : (list : List ℕ) (y k n : ℕ) → Free list y k

@@ -15,6 +15,17 @@ pub record Holds (l : ℕ) (list : List ℕ) (n : ℕ) (τ : Entries) : Type 0 w
   pub good : Good l τ
   pub short : l ≤ 32
 
+-- The slice has the words of τ, a good list of strings of l positions, which are at most 32, and no more.
+pub record WordsOf (l : ℕ) (list : List ℕ) (τ : Entries) : Type 0 where
+  pub here : (i : ℕ) → i < length list → get_or list i 0 ≡ word (get_or τ i [])
+  pub count : length list ≡ length τ
+  pub good : Good l τ
+  pub short : l ≤ 32
+
+-- P of any list of strings of l positions whose words the slice has, and any string whose word is y.
+abbrev pub OfWords : (l : ℕ) (list : List ℕ) → ℕ → (Entries → Trits → Type 0) → Type 0
+OfWords l list y P = (τ : Entries) (s : Trits) → WordsOf l list τ → length s ≡ l → y ≡ word s → P τ s
+
 -- P of any list of strings of l positions that the array holds, and any string whose word is y.
 abbrev pub OfString : (l : ℕ) (list : List ℕ) (n : ℕ) → ℕ → (Entries → Trits → Type 0) → Type 0
 OfString l list n y P = (τ : Entries) (s : Trits) → Holds l list n τ → length s ≡ l → y ≡ word s → P τ s

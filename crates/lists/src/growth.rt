@@ -1,18 +1,18 @@
 // Growing a working list (01, "The growth rule"). Inner: not a public call.
 // What grows a list returns its new count, or `None` where the list is full: it needs entry 257.
-ghost use Rattle.std.specs.Prelude.{◌≡◌, false, not, ℕ, ◌-◌, ◌≤◌, ◌<◌, get_or};
+ghost use Rattle.std.specs.Prelude.{◌≡◌, false, not, ℕ, ◌-◌, ◌≤◌, ◌<◌, length, get_or};
 ghost use Rattle.model.specs.Growth.{Entries, subsumed as subsumed_list, remove, append as append_to};
 ghost use Rattle.model.specs.Growth.{grow as grow_list, grow_all};
 ghost use Rattle.words.specs.Words.{subsumes_word};
 ghost use Rattle.tables.specs.Lists.{some_from};
 ghost use Rattle.tables.specs.Values.{all_from};
-ghost use Rattle.lists.specs.WorkingLists.{Holds, OfString, Within, Makes, Free};
+ghost use Rattle.lists.specs.WorkingLists.{Holds, OfString, OfWords, Within, Makes, Free};
 
 use tables::Table;
 
 // Does one of the strings from j up to end subsume y?
-pub fn some_subsumes(list: &[u64; 256], j: usize, end: usize, y: u64) -> bool
-    requires { (j ≤ end) × (end ≤ 256) }
+pub fn some_subsumes(list: &[u64], j: usize, end: usize, y: u64) -> bool
+    requires { (j ≤ end) × (end ≤ length list.now) }
     ensures { result ≡ some_from j (end - j) (λ i. subsumes_word (get_or list.now i 0) y) }
 {
     let mut found = false;
@@ -23,11 +23,11 @@ pub fn some_subsumes(list: &[u64; 256], j: usize, end: usize, y: u64) -> bool
 }
 
 // Does an entry subsume y? By blocks of 8, up to the first that has one; the last block may overlap the one before.
-pub fn subsumed(list: &[u64; 256], n: usize, y: u64) -> bool
-    requires { n ≤ 256 }
-    ensures words { result ≡ some_from 0 n (λ i. subsumes_word (get_or list.now i 0) y) }
-    ensures strings { (l : ℕ) → OfString l list.now n y (λ τ s. result ≡ subsumed_list τ s) }
+pub fn subsumed(list: &[u64], y: u64) -> bool
+    ensures words { result ≡ some_from 0 (length list.now) (λ i. subsumes_word (get_or list.now i 0) y) }
+    ensures strings { (l : ℕ) → OfWords l list.now y (λ τ s. result ≡ subsumed_list τ s) }
 {
+    let n = list.len();
     if n < 8 {
         return some_subsumes(list, 0, n, y);
     }

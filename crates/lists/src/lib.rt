@@ -5,4 +5,5 @@
 pub mod growth; // growing a list by one string or by each of a row
 pub mod widening; // what a string is widened to before a list is grown by it
 pub mod filter; // growing by a row, with strings that are known to change nothing kept at hand
+pub mod row_growth; // growing by rows with a filter or without, as one trait
 pub mod values; // from a table value and back

@@ -1,4 +1,4 @@
-// A working list from the arrays of a table value, and a table value from a working list. Inner: not a public call.
+// A working list from a table value, and a table value from a working list. Inner: not a public call.
 ghost use Rattle.std.specs.Prelude.{◌≡◌, List, ℕ, ◌≤◌};
 ghost use Rattle.std.proofs.Math.Option.{Option};
 ghost use Rattle.model.specs.Growth.{Entries};
@@ -13,22 +13,22 @@ use tables::{Answered, Refusal, Table};
 use words::Entry;
 
 // What an accepted call that is lent the list to make comes to: the table as it was given, or so many entries of that list.
-#[derive(Clone, Copy)]
+#[derive(Clone, Copy, Debug, PartialEq, Eq)]
 pub enum Came {
     Same,
     Count(usize),
 }
 
-// The list of the first n care and value words of two arrays.
-pub fn load<'a>(care: &'a [u32; 256], value: &'a [u32; 256], n: usize, list: &mut [u64; 256])
-    requires { n ≤ 256 }
-    ensures { (l : ℕ) (τ : Entries) → l ≤ 32 → Stores l care.now value.now n τ
-        → Holds l list.new n τ }
+// The list of a table's entries.
+pub fn load(t: &Table, list: &mut [u64; 256])
+    requires { t.now.n ≤ 256 }
+    ensures { (l : ℕ) (τ : Entries) → l ≤ 32 → Stores l t.now.care t.now.value t.now.n τ
+        → Holds l list.new t.now.n τ }
 {
-    for i in 0..n {
-        list[i] = words::word_of(Entry {
-            care: care[i],
-            value: value[i],
+    for i in 0..t.n {
+        list[i] = u64::from(Entry {
+            care: t.care[i],
+            value: t.value[i],
         });
     }
 }
@@ -41,7 +41,7 @@ pub fn table(l: u32, n: usize, list: &[u64; 256]) -> Table
     let mut care = [0u32; 256];
     let mut value = [0u32; 256];
     for i in 0..n {
-        let e = words::entry_of(list[i]);
+        let e = Entry::from(list[i]);
         care[i] = e.care;
         value[i] = e.value;
     }

@@ -144,7 +144,7 @@ pub fn covered(list: &[u64; 256], n: usize, k: usize, y: u64, z: u64) -> bool
         → OfWidened y z τ s t (result ≡ subsumed_list τ t) }
 {
     if UPPER < n {
-        return crate::growth::subsumed(list, n, z);
+        return crate::growth::subsumed(&list[..n], z);
     }
     shades_subsume(list, k, y, z)
 }
@@ -164,8 +164,8 @@ fn widened(list: &[u64; 256], n: usize, k: usize, l: u32, y: u64) -> u64
 }
 
 // What a scan of the entries finds of a string: the bits that it lacks alone of an entry, the words of the entries that subsume
-// it, each put together by "or", and whether there is one.
-#[derive(Clone, Copy)]
+// it, each put together by "or", and whether there is one. No Option: the scan has no branch.
+#[derive(Clone, Copy, Debug, PartialEq, Eq)]
 struct Sums {
     lacks: u64,
     over: u64,
@@ -193,7 +193,7 @@ fn scan(list: &[u64; 256], n: usize, y: u64) -> Sums
 }
 
 // What one scan of a list says of growing it by a string.
-#[derive(Clone, Copy)]
+#[derive(Clone, Copy, Debug, PartialEq, Eq)]
 pub enum Standing {
     // It changes nothing.
     Absorbed,

@@ -14,7 +14,7 @@ ghost use Rattle.model.specs.Unification.{walk_entries};
 ghost use Rattle.words.specs.Words.{set_word};
 ghost use Rattle.lists.specs.WorkingLists.{Holds, Within, Makes};
 ghost use Rattle.lists.specs.Comings.{Bounded, Comes};
-ghost use Rattle.tables.specs.Values.{refuses, made_or_full, parts, GoodTable, entries_of, zero_table};
+ghost use Rattle.tables.specs.Values.{refuses, made_or_full, GoodTable, entries_of, zero_table};
 ghost use Rattle.procedures.specs.Parts.{OfSets};
 ghost use Rattle.terms.specs.EquationKinds.{Told};
 ghost use Rattle.walks.specs.Cursors.{Rest};
@@ -26,7 +26,7 @@ use tables::{Answered, Refusal, Table};
 use terms::{Equation, Kind};
 use walks::Found;
 
-// A table is positive or negative.
+// A table is positive or negative. Contracts name the side (`side_of`), which a closure has not.
 #[derive(Clone, Copy, Debug, PartialEq, Eq)]
 pub enum Side {
     Positive,
@@ -34,13 +34,15 @@ pub enum Side {
 }
 
 // The side that a number stands for: 0 is positive, any other number negative.
-pub fn side_numbered(number: u32) -> Side
-    ensures { side_of result ≡ side_numbered number }
-{
-    if number == 0 {
-        return Side::Positive;
+impl From<u32> for Side {
+    ghost from_gives = { λ number side. side_of side ≡ side_numbered number };
+
+    fn from(number: u32) -> Side {
+        if number == 0 {
+            return Side::Positive;
+        }
+        Side::Negative
     }
-    Side::Negative
 }
 
 // A refusal, with the table that is returned. Inner: not a public call.
@@ -114,22 +116,13 @@ fn equation_list(
     }
 }
 
-// An equation that was read, on the parts of a checked table: x = x leaves the table as given, and where t holds x deeper,
-// which has no finite solution, there are no groups. Neither grows a list.
-fn equation_read<'a>(
-    side: Side,
-    l: u32,
-    n: usize,
-    care: &'a [u32; 256],
-    value: &'a [u32; 256],
-    e: Equation,
-    list: &mut [u64; 256],
-) -> Result<Came, Refusal>
-    requires { GoodTable (parts l n care.now value.now) }
+// An equation that was read, on a checked table: x = x leaves the table as given, and where t holds x deeper, which has no
+// finite solution, there are no groups. Neither grows a list.
+fn equation_read(side: Side, t: &Table, e: Equation, list: &mut [u64; 256]) -> Result<Came, Refusal>
+    requires { GoodTable t.now }
     ensures bounded { Bounded result }
-    ensures comes { (q : M.Equation) → Told l e q
-        → CameOf (parts l n care.now value.now) list.new result (λ t.
-        made_or_full t.l t (M.equation (side_of side) t.l q (entries_of t))) }
+    ensures comes { (q : M.Equation) → Told t.now.l e q
+        → CameOf t.now list.new result (λ t. made_or_full t.l t (M.equation (side_of side) t.l q (entries_of t))) }
 {
     let kind = e.kind;
     match kind {
@@ -137,8 +130,8 @@ fn equation_read<'a>(
         Kind::Deeper => Ok(Came::Count(no_groups_list(side, list))),
         Kind::Plain => {
             let mut given = [0u64; 256];
-            lists::values::load(care, value, n, &mut given);
-            lists::values::came_of(equation_list(side, &mut given, n, l, e.left, e.right, list))
+            lists::values::load(t, &mut given);
+            lists::values::came_of(equation_list(side, &mut given, t.n, t.l, e.left, e.right, list))
         }
     }
 }
@@ -153,34 +146,29 @@ pub fn read_equation(l: u32, x: u32, ts: &[u16]) -> Result<Equation, Refusal>
     Ok(terms::equation_of(1u32 << (x - 1), m, ts.len()))
 }
 
-// The equation Xx = the term of the tokens, on the parts of a checked table, with the list to make lent. Inner: not a public
-// call.
-pub fn equation_parts<'a>(
+// The equation Xx = the term of the tokens, on a checked table that is lent, with the list to make. Inner: not a public call.
+pub fn equation_parts(
     side: Side,
-    l: u32,
-    n: usize,
-    care: &'a [u32; 256],
-    value: &'a [u32; 256],
+    t: &Table,
     x: u32,
     ts: &[u16],
     list: &mut [u64; 256],
 ) -> Result<Came, Refusal>
-    requires { GoodTable (parts l n care.now value.now) }
+    requires { GoodTable t.now }
     ensures bounded { Bounded result }
-    ensures comes { CameOf (parts l n care.now value.now) list.new result (λ t.
-        equation_call (side_of side) t x ts.now) }
+    ensures comes { CameOf t.now list.new result (λ t. equation_call (side_of side) t x ts.now) }
 {
-    let e = read_equation(l, x, ts)?;
-    equation_read(side, l, n, care, value, e, list)
+    let e = read_equation(t.l, x, ts)?;
+    equation_read(side, t, e, list)
 }
 
-// The same on a checked table.
+// The same, on a checked table by value.
 pub fn equation_checked(side: Side, t: Table, x: u32, ts: &[u16]) -> Answered
     requires { GoodTable t }
     ensures { result ≡ equation_call (side_of side) t x ts.now }
 {
     let mut list = [0u64; 256];
-    let c = equation_parts(side, t.l, t.n, &t.care, &t.value, x, ts, &mut list);
+    let c = equation_parts(side, &t, x, ts, &mut list);
     lists::values::answered(t.l, t, c, &list)
 }
 
@@ -230,6 +218,7 @@ fn apply_found(
     let mut count = n;
     let mut at_left = 0;
     let mut at_right = 0;
+    // A `loop`: only the walk tells that it is at its end.
     loop {
         match walks::next(left, at_left, right, at_right) {
             Found::Equation { found: e, i, j } => {
@@ -244,59 +233,49 @@ fn apply_found(
     }
 }
 
-// Two terms that were read, set equal, on the parts of a checked table: the walk is finished before any found equation is
-// applied.
-fn unify_read<'a>(
+// Two terms that were read, set equal, on a checked table: the walk is finished before any found equation is applied.
+fn unify_read(
     side: Side,
-    l: u32,
-    n: usize,
-    care: &'a [u32; 256],
-    value: &'a [u32; 256],
+    t: &Table,
     left: &[u16],
     right: &[u16],
     list: &mut [u64; 256],
 ) -> Result<Came, Refusal>
-    requires { GoodTable (parts l n care.now value.now) × ((o : Walked) × Rest l left.now right.now 0 0 o) }
+    requires { GoodTable t.now × ((o : Walked) × Rest t.now.l left.now right.now 0 0 o) }
     ensures bounded { Bounded result }
-    ensures comes { (o : Walked) → Rest l left.now right.now 0 0 o
-        → CameOf (parts l n care.now value.now) list.new result (λ t.
-        made_or_full t.l t (walk_entries (side_of side) t.l o (entries_of t))) }
+    ensures comes { (o : Walked) → Rest t.now.l left.now right.now 0 0 o
+        → CameOf t.now list.new result (λ t. made_or_full t.l t (walk_entries (side_of side) t.l o (entries_of t))) }
 {
     if walks::clashes(left, right) {
         return Ok(Came::Count(no_groups_list(side, list)));
     }
-    lists::values::load(care, value, n, list);
-    lists::values::came_of(apply_found(side, list, n, l, left, right))
+    lists::values::load(t, list);
+    lists::values::came_of(apply_found(side, list, t.n, t.l, left, right))
 }
 
-// The terms of two rows of tokens set equal, on the parts of a checked table, with the list to make lent. Inner: not a
-// public call.
-pub fn unify_parts<'a>(
+// The terms of two rows of tokens set equal, on a checked table that is lent, with the list to make. Inner: not a public call.
+pub fn unify_parts(
     side: Side,
-    l: u32,
-    n: usize,
-    care: &'a [u32; 256],
-    value: &'a [u32; 256],
+    t: &Table,
     left: &[u16],
     right: &[u16],
     list: &mut [u64; 256],
 ) -> Result<Came, Refusal>
-    requires { GoodTable (parts l n care.now value.now) }
+    requires { GoodTable t.now }
     ensures bounded { Bounded result }
-    ensures comes { CameOf (parts l n care.now value.now) list.new result (λ t.
-        unify_call (side_of side) t left.now right.now) }
+    ensures comes { CameOf t.now list.new result (λ t. unify_call (side_of side) t left.now right.now) }
 {
-    terms::check_sides(l, left, right)?;
-    unify_read(side, l, n, care, value, left, right, list)
+    terms::check_sides(t.l, left, right)?;
+    unify_read(side, t, left, right, list)
 }
 
-// The same on a checked table.
+// The same, on a checked table by value.
 pub fn unify_checked(side: Side, t: Table, left: &[u16], right: &[u16]) -> Answered
     requires { GoodTable t }
     ensures { result ≡ unify_call (side_of side) t left.now right.now }
 {
     let mut list = [0u64; 256];
-    let c = unify_parts(side, t.l, t.n, &t.care, &t.value, left, right, &mut list);
+    let c = unify_parts(side, &t, left, right, &mut list);
     lists::values::answered(t.l, t, c, &list)
 }
 
@@ -340,9 +319,9 @@ fn join_checked(side: Side, t: Table, u: Table) -> Answered
     let an = t.n;
     let bn = u.n;
     let mut a = [0u64; 256];
-    lists::values::load(&t.care, &t.value, an, &mut a);
+    lists::values::load(&t, &mut a);
     let mut b = [0u64; 256];
-    lists::values::load(&u.care, &u.value, bn, &mut b);
+    lists::values::load(&u, &mut b);
     let mut list = [0u64; 256];
     let g = join_list(side, &a, an, &b, bn, l, &mut list);
     lists::values::made_or_full(l, t, g, &list)
@@ -400,7 +379,7 @@ pub fn project(side: Side, t: Table, keep: u32) -> Answered
             }
             let n = t.n;
             let mut given = [0u64; 256];
-            lists::values::load(&t.care, &t.value, n, &mut given);
+            lists::values::load(&t, &mut given);
             let mut list = [0u64; 256];
             let g = projection_list(side, &given, n, l, keep, &mut list);
             lists::values::made_or_full(u32::count_ones(keep), t, g, &list)
@@ -418,7 +397,7 @@ pub fn change_side(side: Side, t: Table) -> Answered
             let l = t.l;
             let n = t.n;
             let mut given = [0u64; 256];
-            lists::values::load(&t.care, &t.value, n, &mut given);
+            lists::values::load(&t, &mut given);
             let mut list = [0u64; 256];
             let mut taken = [0u64; 256];
             let mut edges = [0u64; 256];

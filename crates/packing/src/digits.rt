@@ -25,7 +25,7 @@ pub fn powers(w: u32) -> u8
     POWERS[w as usize]
 }
 
-// What is in the table at a byte that no five positions have.
+// What is in the table at a byte that no five positions have. A number and no Option, which would double the table.
 pub const NONE: u16 = 1024;
 
 // Of each byte the care word of its five positions and 32 times their value word; of 243 to 255 none.

@@ -11,7 +11,7 @@ ghost use Rattle.packing.specs.Packing.{row_length, packed, row_positions, all_p
 use words::Entry;
 
 // The positions of a row, five of each byte: care and value words of up to 35 bits.
-#[derive(Clone, Copy)]
+#[derive(Clone, Copy, Debug, PartialEq, Eq)]
 struct Positions {
     care: u64,
     value: u64,

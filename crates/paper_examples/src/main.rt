@@ -143,7 +143,7 @@ fn write_front(rt: &impl Print, s: &[u8], n: usize) -> io::Result<()>
 // Writes a refusal's number.
 fn write_refusal(rt: &impl Print, r: Refusal) -> io::Result<()> {
     write(rt, b"refused ")?;
-    rt.print(tables::refusal_number(r) as u64)
+    rt.print(u32::from(r) as u64)
 }
 
 // Writes a set as the paper prints it, with its side where that is negative.

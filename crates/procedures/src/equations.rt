@@ -147,7 +147,8 @@ pub fn negative_in_place(
     candidates::pairs::pairs(Pairing::Meet, t, c, &crossed, k, l, list, &mut row)
 }
 
-// Equation, positive, for x alone in mx and t's variables in mt.
+// Equation, positive, for x alone in mx and t's variables in mt. It stays beside `positive_in_place` for its promise: the table
+// is lent for reading.
 pub fn positive(
     t: &[u64; 256],
     tn: usize,
@@ -164,7 +165,7 @@ pub fn positive(
     positive_in_place(&mut own, tn, l, mx, mt, list)
 }
 
-// Equation, negative, for x alone in mx and t's variables in mt.
+// Equation, negative, likewise.
 pub fn negative(
     t: &[u64; 256],
     tn: usize,

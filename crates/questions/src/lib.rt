@@ -18,7 +18,7 @@ pub fn reply_number(reply: Result<bool, Refusal>) -> u32
 {
     match reply {
         Ok(_) => 0,
-        Err(r) => tables::refusal_number(r),
+        Err(r) => u32::from(r),
     }
 }
 
@@ -34,6 +34,7 @@ pub fn reply_word(reply: Result<bool, Refusal>, w: u32) -> u32
 }
 
 // Do two checked tables of one width and one side, whichever it is, stand for the same groups?
+#[tactic(auto, using(tables::proofs::Checking::good_few))]
 fn equal_checked(t: Table, u: Table) -> bool
     requires { GoodTable t × GoodTable u × (u.l ≡ t.l) }
     ensures { result ≡ equal_lists positive t.l (entries_of t) (entries_of u) }
@@ -42,10 +43,10 @@ fn equal_checked(t: Table, u: Table) -> bool
     let an = t.n;
     let bn = u.n;
     let mut a = [0u64; 256];
-    lists::values::load(&t.care, &t.value, an, &mut a);
+    lists::values::load(&t, &mut a);
     let mut b = [0u64; 256];
-    lists::values::load(&u.care, &u.value, bn, &mut b);
-    covering::equality::equal(&a, an, &b, bn, l)
+    lists::values::load(&u, &mut b);
+    covering::equality::equal(&a[..an], &b[..bn], l)
 }
 
 // Are two tables of one side equal in groups? The answer is the same for both sides.
@@ -61,6 +62,7 @@ pub fn equal(t: Table, u: Table) -> Result<bool, Refusal>
 }
 
 // Has no group of a checked table the variable Xx?
+#[tactic(auto, using(tables::proofs::Checking::good_few))]
 fn ground_checked(side: Side, t: Table, x: u32) -> bool
     requires { GoodTable t × (1 ≤ x) × (x ≤ t.l) }
     ensures { result ≡ ground_list (side_of side) t.l (entries_of t) x }
@@ -68,10 +70,10 @@ fn ground_checked(side: Side, t: Table, x: u32) -> bool
     let l = t.l;
     let n = t.n;
     let mut list = [0u64; 256];
-    lists::values::load(&t.care, &t.value, n, &mut list);
+    lists::values::load(&t, &mut list);
     match side {
-        Side::Positive => covering::independence::ground_positive(&list, n, x),
-        Side::Negative => covering::independence::ground_negative(&list, n, l, x),
+        Side::Positive => covering::independence::ground_positive(&list[..n], x),
+        Side::Negative => covering::independence::ground_negative(&list[..n], l, x),
     }
 }
 
@@ -87,6 +89,7 @@ pub fn ground(side: Side, t: Table, x: u32) -> Result<bool, Refusal>
 }
 
 // Does no group of a checked table meet both sets?
+#[tactic(auto, using(tables::proofs::Checking::good_few))]
 fn independent_checked(side: Side, t: Table, a: u32, b: u32) -> bool
     requires { GoodTable t × (a < 2 ^ t.l) × (b < 2 ^ t.l) }
     ensures { result ≡ independent_list (side_of side) t.l (entries_of t) (set t.l a) (set t.l b) }
@@ -94,10 +97,10 @@ fn independent_checked(side: Side, t: Table, a: u32, b: u32) -> bool
     let l = t.l;
     let n = t.n;
     let mut list = [0u64; 256];
-    lists::values::load(&t.care, &t.value, n, &mut list);
+    lists::values::load(&t, &mut list);
     match side {
-        Side::Positive => covering::independence::independent_positive(&list, n, a, b),
-        Side::Negative => covering::independence::independent_negative(&list, n, l, a, b),
+        Side::Positive => covering::independence::independent_positive(&list[..n], a, b),
+        Side::Negative => covering::independence::independent_negative(&list[..n], l, a, b),
     }
 }
 

@@ -25,47 +25,47 @@ use Rattle.model.proofs.Reasons.{has_or, same_variables, together_exact, togethe
 use Rattle.model.proofs.Reasons.{lowest_is, lowest_none}
 use Rattle.words.specs.Words.{set, set_word}
 use Rattle.words.proofs.Codec.{set_word_or, set_set_word}
-use Rattle.lists.specs.WorkingLists.{Holds}
-use Rattle.lists.proofs.Holding.{holds_length}
+use Rattle.lists.specs.WorkingLists.{WordsOf}
+use Rattle.lists.proofs.Slices.{words_length}
 use Rattle.covering.proofs.EveryGroup.{test}
 use Rattle.covering.proofs.Pieces.{covered_at, covered_of}
 use Rattle.reasons.specs.Entries.{rest, largest, largest_word, part_word, parts_word, found}
 use Rattle.reasons.proofs.Largest.{largest_has, largest_all, largest_length, largest_is, none_word}
 use Rattle.reasons.proofs.Largest.{reaches_word, none_has, apart_word}
 
-module _ {l : ℕ} {list : List ℕ} {n : ℕ} {τ : Entries} (h : Holds l list n τ) (r k : Bits) (whole : length r ≡ l)
+module _ {l : ℕ} {list : List ℕ} {τ : Entries} (h : WordsOf l list τ) (r k : Bits) (whole : length r ≡ l)
     {s m : ℕ} (is_s : s ≡ set_word r) (is_m : m ≡ set_word k) where
   -- the code's test of entry j
-  reach : (j : ℕ) → j < n
+  reach : (j : ℕ) → j < length list
       → eqb (bit_and (largest_word (get_or list j 0) s) m) 0 ≡ not (covers_inside l r k (get_or τ j []))
   reach j lt =
-      rw (h.here j lt, is_s, is_m) (reaches_word l r k (get_or τ j []) whole (holds_length h j lt) h.short)
+      rw (h.here j lt, is_s, is_m) (reaches_word l r k (get_or τ j []) whole (words_length h j lt) h.short)
 
   -- it fails
-  unreached : (j : ℕ) → j < n → bit_and (largest_word (get_or list j 0) s) m ≡ 0 → ¬ (T (covers_inside l r k (get_or τ j [])))
+  unreached : (j : ℕ) → j < length list → bit_and (largest_word (get_or list j 0) s) m ≡ 0 → ¬ (T (covers_inside l r k (get_or τ j [])))
   unreached j lt e t =
       let d : true ≡ not (covers_inside l r k (get_or τ j [])) = sym (eq-eqb _ 0 e) ∙ reach j lt in
       false≢true (sym (d ∙ ap not (true_of (covers_inside l r k (get_or τ j [])) t)))
 
   -- it holds
-  reached : (j : ℕ) → j < n → ¬ (bit_and (largest_word (get_or list j 0) s) m ≡ 0) → T (covers_inside l r k (get_or τ j []))
+  reached : (j : ℕ) → j < length list → ¬ (bit_and (largest_word (get_or list j 0) s) m ≡ 0) → T (covers_inside l r k (get_or τ j []))
   reached j lt e =
       not_not (covers_inside l r k (get_or τ j [])) (λ t.
       false≢true (sym (ne_eqb _ 0 e) ∙ reach j lt ∙ true_of (not (covers_inside l r k (get_or τ j []))) t))
 
   -- The first entry that passes.
-  pub found_here : (i : ℕ) → i < n → ((j : ℕ) → j < i → bit_and (largest_word (get_or list j 0) s) m ≡ 0)
+  pub found_here : (i : ℕ) → i < length list → ((j : ℕ) → j < i → bit_and (largest_word (get_or list j 0) s) m ≡ 0)
       → ¬ (bit_and (largest_word (get_or list i 0) s) m ≡ 0) → found (Some i) ≡ lowest (covers_inside l r k) τ
   found_here i lt f here =
       sym (lowest_is (covers_inside l r k) τ i (omega (arith, lt, h.count)) (reached i lt here)
       (λ j below. unreached j (omega (arith, lt, below)) (f j below)))
 
   -- None does.
-  pub found_nowhere : ((j : ℕ) → j < n → bit_and (largest_word (get_or list j 0) s) m ≡ 0)
+  pub found_nowhere : ((j : ℕ) → j < length list → bit_and (largest_word (get_or list j 0) s) m ≡ 0)
       → found None ≡ lowest (covers_inside l r k) τ
   found_nowhere f =
       sym (lowest_none (covers_inside l r k) τ (λ j below.
-      let lt : j < n = omega (arith, below, h.count) in
+      let lt : j < length list = omega (arith, below, h.count) in
       unreached j lt (f j lt)))
 
 -- ---- The groups together
@@ -119,16 +119,16 @@ has_parts r k τ (suc i) j y lt t h =
     (λ below. or_left (has (parts r k τ i) y) (has (part r k (get_or τ i [])) y) (has_parts r k τ i j y below t h))
     (eq-or-lt_of_le (le_of_suc-le-suc lt)))
 
-module _ {l : ℕ} {list : List ℕ} {n : ℕ} {τ : Entries} (h : Holds l list n τ) (r k : Bits) (whole : length r ≡ l) where
-  part_length : (j : ℕ) → j < n → length (part r k (get_or τ j [])) ≡ l
+module _ {l : ℕ} {list : List ℕ} {τ : Entries} (h : WordsOf l list τ) (r k : Bits) (whole : length r ≡ l) where
+  part_length : (j : ℕ) → j < length list → length (part r k (get_or τ j [])) ≡ l
   unfolding part none
   part_length j lt = go (meets k (largest r (get_or τ j [])))
     where
       go : (c : Bool) → length (cond c (largest r (get_or τ j [])) (none r)) ≡ l
-      go true = largest_length r (get_or τ j []) (holds_length h j lt ∙ sym whole) ∙ whole
+      go true = largest_length r (get_or τ j []) (words_length h j lt ∙ sym whole) ∙ whole
       go false = length-map r (λ (b : Bool). false) ∙ whole
 
-  parts_length : (i : ℕ) → i ≤ n → length (parts r k τ i) ≡ l
+  parts_length : (i : ℕ) → i ≤ length list → length (parts r k τ i) ≡ l
   unfolding parts none
   parts_length zero le = length-map r (λ (b : Bool). false) ∙ whole
   parts_length (suc i) le =
@@ -136,19 +136,19 @@ module _ {l : ℕ} {list : List ℕ} {n : ℕ} {τ : Entries} (h : Holds l list 
       (part_length i (omega (arith, le)))
 
   -- The parts of all entries are the groups together.
-  parts_together : parts r k τ n ≡ together l r k τ
+  parts_together : parts r k τ (length list) ≡ together l r k τ
   unfolding together groups
   parts_together =
-      same_variables (together l r k τ) (parts r k τ n)
-      (parts_length n (omega arith) ∙ sym (together_length l r whole k τ))
+      same_variables (together l r k τ) (parts r k τ (length list))
+      (parts_length (length list) (omega arith) ∙ sym (together_length l r whole k τ))
       (λ y t.
-      let w = parts_has r k τ n y t in
+      let w = parts_has r k τ (length list) y t in
       let e = get_or τ w.0 [] in
-      let long : length e ≡ length r = holds_length h w.0 w.1 ∙ sym whole in
+      let long : length e ≡ length r = words_length h w.0 w.1 ∙ sym whole in
       let g = largest_has r e long y w.3 in
       let m : T (meets k (rest r e)) = rw g.0 at w.2 in
       let d : T (has (rest r e) y) = rw g.0 at w.3 in
-      let size : length (rest r e) ≡ l = covers_length e (rest r e) g.1 ∙ holds_length h w.0 w.1 in
+      let size : length (rest r e) ≡ l = covers_length e (rest r e) g.1 ∙ words_length h w.0 w.1 in
       set_of_has l _ y (rest r e) size d
       ((together_exact l r whole k τ y).1 (
         rest r e,
@@ -162,20 +162,20 @@ module _ {l : ℕ} {list : List ℕ} {n : ℕ} {τ : Entries} (h : Holds l list 
       (λ y t.
       let w = (together_exact l r whole k τ y).0 (has_set_of l _ y t) in
       let c = covered_of τ w.0 (true_of (covered τ w.0) w.1.1) in
-      let lt : c.0 < n = omega (arith, c.1, h.count) in
+      let lt : c.0 < length list = omega (arith, c.1, h.count) in
       let all = largest_all r (get_or τ c.0 []) w.0 (test c.2) w.2 in
       let q = meets_has k w.0 w.3.0 in
-      has_parts r k τ n c.0 y lt
+      has_parts r k τ (length list) c.0 y lt
       (has_meets k (largest r (get_or τ c.0 [])) q.0 q.1 (all q.0 q.2)) (all y w.3.1))
 
   -- ---- As words
 
   module _ {s m : ℕ} (is_s : s ≡ set_word r) (is_m : m ≡ set_word k) where
-    part_is : (j : ℕ) → j < n → part_word (get_or list j 0) s m ≡ set_word (part r k (get_or τ j []))
+    part_is : (j : ℕ) → j < length list → part_word (get_or list j 0) s m ≡ set_word (part r k (get_or τ j []))
     unfolding part_word part none
     part_is j lt =
         let e = get_or τ j [] in
-        let long = holds_length h j lt in
+        let long = words_length h j lt in
         rw (h.here j lt, is_s, is_m, largest_is r e (long ∙ sym whole) (rw long h.short), apart_word k (largest r e))
         (go (meets k (largest r e)) (largest r e))
       where
@@ -183,7 +183,7 @@ module _ {l : ℕ} {list : List ℕ} {n : ℕ} {τ : Entries} (h : Holds l list 
         go true g = refl
         go false g = sym (none_word r)
 
-    parts_is : (i : ℕ) → i ≤ n → parts_word list s m i ≡ set_word (parts r k τ i)
+    parts_is : (i : ℕ) → i ≤ length list → parts_word list s m i ≡ set_word (parts r k τ i)
     unfolding parts_word parts none
     parts_is zero le = sym (none_word r)
     parts_is (suc i) le =
@@ -191,8 +191,8 @@ module _ {l : ℕ} {list : List ℕ} {n : ℕ} {τ : Entries} (h : Holds l list 
         (ap₂ bit_or (parts_is i (omega (arith, le))) (part_is i (omega (arith, le))))
 
     -- What the loop gathers.
-    pub together_is : parts_word list s m n ≡ set_word (together l r k τ)
-    together_is = parts_is n (omega arith) ∙ ap set_word parts_together
+    pub together_is : parts_word list s m (length list) ≡ set_word (together l r k τ)
+    together_is = parts_is (length list) (omega arith) ∙ ap set_word parts_together
 
 -- The groups make up s exactly where their word is that of s.
 pub made_up_word : (l : ℕ) (s m : Bits) (τ : Entries) → length s ≡ l

@@ -7,7 +7,7 @@ use Rattle.model.specs.Groups.{Bits}
 use Rattle.model.specs.Strings.{Trit, t0, t1, t*, Trits}
 use Rattle.model.specs.Growth.{Entries}
 use Rattle.words.specs.Words.{set_word, high, low}
-use Rattle.lists.specs.WorkingLists.{Holds}
+use Rattle.lists.specs.WorkingLists.{WordsOf}
 use Rattle.covering.specs.Sets.{greatest_digit}
 
 -- ---- One entry
@@ -51,9 +51,9 @@ parts_word list s m zero = 0
 parts_word list s m (suc i) = bit_or (parts_word list s m i) (part_word (get_or list i 0) s m)
 
 -- P of any list of strings of l positions that the array holds, and any sets whose words are s and m.
-abbrev pub OfParts : (l : ℕ) (list : List ℕ) (n s m : ℕ) → (Entries → Bits → Bits → Type 0) → Type 0
-OfParts l list n s m P =
-    (τ : Entries) (r k : Bits) → Holds l list n τ → length r ≡ l → length k ≡ l → s ≡ set_word r → m ≡ set_word k → P τ r k
+abbrev pub OfParts : (l : ℕ) (list : List ℕ) (s m : ℕ) → (Entries → Bits → Bits → Type 0) → Type 0
+OfParts l list s m P =
+    (τ : Entries) (r k : Bits) → WordsOf l list τ → length r ≡ l → length k ≡ l → s ≡ set_word r → m ≡ set_word k → P τ r k
 
 -- ---- An index
 

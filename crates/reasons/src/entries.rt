@@ -21,12 +21,11 @@ fn largest(e: u64, s: u32) -> u32
 }
 
 // The lowest entry that covers a group inside s with a variable of m, if one does.
-pub fn lowest(list: &[u64; 256], n: usize, s: u32, m: u32) -> Option<usize>
-    requires { n ≤ 256 }
-    ensures bound { IfSome result (λ i. i < n) }
-    ensures entry { (l : ℕ) → OfParts l list.now n s m (λ τ k h. found result ≡ lowest_entry (covers_inside l k h) τ) }
+pub fn lowest(list: &[u64], s: u32, m: u32) -> Option<usize>
+    ensures bound { IfSome result (λ i. i < length list.now) }
+    ensures entry { (l : ℕ) → OfParts l list.now s m (λ τ k h. found result ≡ lowest_entry (covers_inside l k h) τ) }
 {
-    for (i, &e) in list[..n].iter().enumerate() {
+    for (i, &e) in list.iter().enumerate() {
         if largest(e, s) & m != 0 {
             return Some(i);
         }
@@ -35,12 +34,11 @@ pub fn lowest(list: &[u64; 256], n: usize, s: u32, m: u32) -> Option<usize>
 }
 
 // The groups inside s that have a variable of m, together.
-pub fn together(list: &[u64; 256], n: usize, s: u32, m: u32) -> u32
-    requires { n ≤ 256 }
-    ensures { (l : ℕ) → OfParts l list.now n s m (λ τ k h. result ≡ set_word (together_set l k h τ)) }
+pub fn together(list: &[u64], s: u32, m: u32) -> u32
+    ensures { (l : ℕ) → OfParts l list.now s m (λ τ k h. result ≡ set_word (together_set l k h τ)) }
 {
     let mut set = 0u32;
-    for &e in &list[..n] {
+    for &e in list {
         let g = largest(e, s);
         if g & m != 0 {
             set |= g;

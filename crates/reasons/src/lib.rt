@@ -10,7 +10,7 @@ ghost use Rattle.model.specs.Growth.{Entries};
 ghost use Rattle.model.specs.Equations as M;
 ghost use Rattle.words.specs.Words.{set_word};
 ghost use Rattle.tables.specs.Values.{GoodTable};
-ghost use Rattle.lists.specs.WorkingLists.{Holds};
+ghost use Rattle.lists.specs.WorkingLists.{WordsOf};
 ghost use Rattle.terms.specs.EquationKinds.{Told};
 ghost use Rattle.reasons.specs.Verdicts.{verdict_number, reason_word, verdict_word, x_word, t_word, untouched, touched};
 ghost use Rattle.reasons.specs.Verdicts.{verdict, check_group, group_call, reason_call};
@@ -36,7 +36,7 @@ pub enum Reason {
 
 // What is told of a group s: it is kept; it is joined, and the lowest entries, from 0, that cover a group inside s with x and
 // one with a variable of t; or it is absent, and why.
-#[derive(Clone, Copy)]
+#[derive(Clone, Copy, Debug, PartialEq, Eq)]
 pub enum Verdict {
     Kept,
     Joined { x_entry: u32, t_entry: u32 },
@@ -49,20 +49,22 @@ pub fn verdict_number(v: Result<Verdict, Refusal>) -> u32
 {
     match v {
         Ok(_) => 0,
-        Err(r) => tables::refusal_number(r),
+        Err(r) => u32::from(r),
     }
 }
 
 // The word of a reason.
-fn reason_word(r: Reason) -> u32
-    ensures { result ≡ reason_word r }
-{
-    match r {
-        Reason::NoXEntry => 2,
-        Reason::NoTEntry => 3,
-        Reason::NotMadeUp => 4,
-        Reason::NotThere => 5,
-        Reason::NoSolution => 6,
+impl From<Reason> for u32 {
+    ghost from_gives = { λ r word. word ≡ reason_word r };
+
+    fn from(r: Reason) -> u32 {
+        match r {
+            Reason::NoXEntry => 2,
+            Reason::NoTEntry => 3,
+            Reason::NotMadeUp => 4,
+            Reason::NotThere => 5,
+            Reason::NoSolution => 6,
+        }
     }
 }
 
@@ -73,7 +75,7 @@ pub fn verdict_word(v: Result<Verdict, Refusal>, w: u32) -> u32
     match v {
         Ok(Verdict::Kept) => 0,
         Ok(Verdict::Joined { x_entry, t_entry }) => 1,
-        Ok(Verdict::Absent(r)) => reason_word(r),
+        Ok(Verdict::Absent(r)) => u32::from(r),
         Err(_) => w,
     }
 }
@@ -103,33 +105,33 @@ pub fn t_word(v: Result<Verdict, Refusal>, w: u32) -> u32
 }
 
 // Of a group that the equation does not touch: is it in the table?
-fn kept(list: &[u64; 256], n: usize, l: u32, s: u32) -> Verdict
-    requires { (n ≤ 256) × (l ≤ 32) }
-    ensures { (τ : Entries) (k : Bits) → Holds l list.now n τ → length k ≡ l → s ≡ set_word k → Ok result ≡ untouched τ k }
+fn kept(list: &[u64], l: u32, s: u32) -> Verdict
+    requires { l ≤ 32 }
+    ensures { (τ : Entries) (k : Bits) → WordsOf l list.now τ → length k ≡ l → s ≡ set_word k → Ok result ≡ untouched τ k }
 {
-    let y = words::word_of(Entry {
+    let y = u64::from(Entry {
         care: words::full(l),
         value: s,
     });
-    if lists::growth::subsumed(list, n, y) {
+    if lists::growth::subsumed(list, y) {
         return Verdict::Kept;
     }
     Verdict::Absent(Reason::NotThere)
 }
 
 // Of a group with x or a variable of t: do the groups inside it join to it?
-fn joined(list: &[u64; 256], n: usize, mx: u32, mt: u32, s: u32) -> Verdict
-    requires { n ≤ 256 }
-    ensures { (l : ℕ) (τ : Entries) (x t k : Bits) → Holds l list.now n τ → length x ≡ l → length t ≡ l → length k ≡ l
+fn joined(list: &[u64], mx: u32, mt: u32, s: u32) -> Verdict
+    requires { length list.now ≤ 256 }
+    ensures { (l : ℕ) (τ : Entries) (x t k : Bits) → WordsOf l list.now τ → length x ≡ l → length t ≡ l → length k ≡ l
         → mx ≡ set_word x → mt ≡ set_word t → s ≡ set_word k → Ok result ≡ touched l x t τ k }
 {
-    let Some(i) = crate::entries::lowest(list, n, s, mx) else {
+    let Some(i) = crate::entries::lowest(list, s, mx) else {
         return Verdict::Absent(Reason::NoXEntry);
     };
-    let Some(j) = crate::entries::lowest(list, n, s, mt) else {
+    let Some(j) = crate::entries::lowest(list, s, mt) else {
         return Verdict::Absent(Reason::NoTEntry);
     };
-    if crate::entries::together(list, n, s, mx | mt) != s {
+    if crate::entries::together(list, s, mx | mt) != s {
         return Verdict::Absent(Reason::NotMadeUp);
     }
     Verdict::Joined {
@@ -139,20 +141,20 @@ fn joined(list: &[u64; 256], n: usize, mx: u32, mt: u32, s: u32) -> Verdict
 }
 
 // The verdict on a group of l variables, by the kind of the equation.
-fn told(list: &[u64; 256], n: usize, l: u32, e: Equation, s: u32) -> Verdict
-    requires { (n ≤ 256) × (l ≤ 32) }
-    ensures { (τ : Entries) (q : M.Equation) (k : Bits) → Holds l list.now n τ → Told l e q → length k ≡ l → s ≡ set_word k
+fn told(list: &[u64], l: u32, e: Equation, s: u32) -> Verdict
+    requires { (length list.now ≤ 256) × (l ≤ 32) }
+    ensures { (τ : Entries) (q : M.Equation) (k : Bits) → WordsOf l list.now τ → Told l e q → length k ≡ l → s ≡ set_word k
         → Ok result ≡ verdict l q τ k }
 {
     let kind = e.kind;
     match kind {
-        Kind::Itself => kept(list, n, l, s),
+        Kind::Itself => kept(list, l, s),
         Kind::Deeper => Verdict::Absent(Reason::NoSolution),
         Kind::Plain => {
             if (e.left | e.right) & s == 0 {
-                return kept(list, n, l, s);
+                return kept(list, l, s);
             }
-            joined(list, n, e.left, e.right, s)
+            joined(list, e.left, e.right, s)
         }
     }
 }
@@ -172,6 +174,7 @@ fn check_group(l: u32, s: u32) -> Result<(), Refusal>
 }
 
 // The verdict on s of a checked table and an equation that was read.
+#[tactic(auto, using(tables::proofs::Checking::good_few))]
 fn judge_read(t: Table, e: Equation, s: u32) -> Result<Verdict, Refusal>
     requires { GoodTable t }
     ensures { (q : M.Equation) → Told t.l e q → result ≡ group_call t q s }
@@ -180,8 +183,8 @@ fn judge_read(t: Table, e: Equation, s: u32) -> Result<Verdict, Refusal>
     check_group(l, s)?;
     let n = t.n;
     let mut list = [0u64; 256];
-    lists::values::load(&t.care, &t.value, n, &mut list);
-    Ok(told(&list, n, l, e, s))
+    lists::values::load(&t, &mut list);
+    Ok(told(&list[..n], l, e, s))
 }
 
 // The verdict on s of a checked table and the equation Xx = the term of the tokens. Inner: not a public call.

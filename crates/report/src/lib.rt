@@ -30,7 +30,7 @@ fn narrowed(s: Running) -> Running
     ensures { result ≡ narrowed s }
 {
     if s.code == 0 {
-        running::refused(tables::refusal_number(Refusal::Narrow), 0)
+        running::refused(u32::from(Refusal::Narrow), 0)
     } else {
         s
     }
@@ -62,7 +62,7 @@ fn refuse(r: Refusal, out: &mut [u8]) -> Reported
     ensures answer { result ≡ refused_report (refusal_number r) out.old }
     ensures bytes { out.new ≡ fitted (refused_text (refusal_number r)) out.old }
 {
-    let code = tables::refusal_number(r);
+    let code = u32::from(r);
     let end = REFUSED + text::lines::digits(code);
     let state = running::refused(code, 0);
     if out.len() <= end {

@@ -1,4 +1,4 @@
-// The running analysis and the run, on states by value. Inner: not a public call.
+// The running analysis and the run, on a state. Inner: not a public call.
 #![tactic(auto)]
 
 ghost use Rattle.std.specs.Prelude.{◌≡◌, ◌≤◌};
@@ -35,7 +35,7 @@ pub fn start(side: u32, b: &[u8]) -> Running
     let mut list = [0u64; 256];
     match forms::read_list(Layout::Plain, Extent::Whole, b, &mut list) {
         Err(r) => Running {
-            code: tables::refusal_number(r),
+            code: u32::from(r),
             side: side,
             applied: 0,
             table: Table::zero(),
@@ -62,86 +62,42 @@ fn one_more(k: u32) -> u32
     k
 }
 
-// The number that a step returns, and the state after it.
-#[derive(Clone, Copy)]
-pub struct Stepped {
-    pub number: u32,
-    pub state: Running,
-}
-
-// One more accepted equation, with the table after it.
-fn accepted(side: u32, applied: u32, t: Table) -> Stepped
-    ensures { (result.number ≡ 0) × (result.state ≡ state 0 side (one_more applied) t) }
-{
-    Stepped {
-        number: 0,
-        state: Running {
-            code: 0,
-            side: side,
-            applied: one_more(applied),
-            table: t,
-        },
-    }
-}
-
-// The state after what came of an equation: a refusal leaves the whole state as it was.
-fn answered(s: Running, came: Result<Came, Refusal>, list: &[u64; 256]) -> Stepped
+// The state after what came of an equation, and its answer: a refusal leaves the whole state as it was.
+fn answered(s: &mut Running, came: Result<Came, Refusal>, list: &[u64; 256]) -> Result<(), Refusal>
     requires { Bounded came }
-    ensures { (a : AnsweredTable) → Comes s.table.l s.table list.now came a
-        → (result.number ≡ answer_number a.answer) × (result.state ≡ after_answer s a) }
+    ensures { (a : AnsweredTable) → Comes s.old.table.l s.old.table list.now came a
+        → (result ≡ a.answer) × (s.new ≡ after_answer s.old a) }
 {
-    let t = s.table;
-    match came {
-        Err(r) => Stepped {
-            number: tables::refusal_number(r),
-            state: s,
-        },
-        Ok(Came::Same) => accepted(s.side, s.applied, t),
-        Ok(Came::Count(n)) => accepted(s.side, s.applied, lists::values::table(t.l, n, list)),
+    match came? {
+        Came::Same => {}
+        Came::Count(n) => {
+            s.table = lists::values::table(s.table.l, n, list);
+        }
     }
+    s.code = 0;
+    s.applied = one_more(s.applied);
+    Ok(())
 }
 
 // The equation Xx = the term of the bytes, on a state.
-pub fn advance(s: Running, x: u32, term: &[u8]) -> Stepped
-    ensures { (result.number ≡ step_number s (one_term x term.now))
-        × (result.state ≡ advanced s (one_term x term.now)) }
+pub fn advance(s: &mut Running, x: u32, term: &[u8]) -> Result<(), Refusal>
+    ensures { (answer_number result ≡ step_number s.old (one_term x term.now))
+        × (s.new ≡ advanced s.old (one_term x term.now)) }
 {
-    let side = operations::side_numbered(s.side);
-    let l = s.table.l;
-    let n = s.table.n;
+    let side = Side::from(s.side);
     let mut list = [0u64; 256];
-    let came = byte_calls::equation_parts(
-        side,
-        l,
-        n,
-        &s.table.care,
-        &s.table.value,
-        x,
-        term,
-        &mut list,
-    );
+    let came = byte_calls::equation_parts(side, &s.table, x, term, &mut list);
     answered(s, came, &list)
 }
 
 // The terms of two rows of bytes set equal, on a state.
-pub fn unify(s: Running, left: &[u8], right: &[u8]) -> Stepped
-    ensures { (result.number ≡ step_number s (two_terms left.now right.now))
-        × (result.state ≡ advanced s (two_terms left.now right.now)) }
+pub fn unify(s: &mut Running, left: &[u8], right: &[u8]) -> Result<(), Refusal>
+    ensures { (answer_number result ≡ step_number s.old (two_terms left.now right.now))
+        × (s.new ≡ advanced s.old (two_terms left.now right.now)) }
 {
-    let side = operations::side_numbered(s.side);
-    let l = s.table.l;
-    let n = s.table.n;
+    let side = Side::from(s.side);
     let mut list = [0u64; 256];
-    let came = byte_calls::unify_parts(
-        side,
-        l,
-        n,
-        &s.table.care,
-        &s.table.value,
-        left,
-        right,
-        &mut list,
-    );
+    let came = byte_calls::unify_parts(side, &s.table, left, right, &mut list);
     answered(s, came, &list)
 }
 
@@ -188,14 +144,15 @@ fn apply(f: Left, side: u32, t: Table, q: &[u8]) -> Running
     requires { GoodSizes f q.now }
     ensures { result ≡ run_from side t 0 (equations_in f q.now) }
 {
-    let s = operations::side_numbered(side);
+    let s = Side::from(side);
     let mut u = t;
     let mut c = equation_forms::first(q);
+    // A `while`: the cursor moves on by the length of the equation that stands at it.
     while equation_forms::more(c) {
         let a = step(f, s, u, c, q);
         u = a.table;
         if let Err(r) = a.answer {
-            return stopped(tables::refusal_number(r), side, c.k, u);
+            return stopped(u32::from(r), side, c.k, u);
         }
         c = equation_forms::next(f, c, q);
     }
@@ -209,10 +166,10 @@ pub fn run(f: Left, side: u32, b: &[u8], q: &[u8]) -> Running
     let read = forms::read_table(Extent::Whole, b);
     let t = read.table;
     if let Err(r) = read.answer {
-        return refused(tables::refusal_number(r), side);
+        return refused(u32::from(r), side);
     }
     match equation_forms::check(f, t.l, q) {
-        Err(r) => refused(tables::refusal_number(r), side),
+        Err(r) => refused(u32::from(r), side),
         Ok(()) => apply(f, side, t, q),
     }
 }

@@ -64,7 +64,7 @@ fn append_fresh(
     if words::is_zero(l, z) {
         return Some(n);
     }
-    if lists::growth::subsumed(edges, m, z) {
+    if lists::growth::subsumed(&edges[..m], z) {
         return Some(n);
     }
     lists::growth::append(list, n, z)
@@ -167,7 +167,7 @@ pub fn change_side_lent(
     Some(n)
 }
 
-// The same where no room is lent.
+// The same where no room is lent. It stays beside the other for its promise, which asks for less.
 pub fn change_side(t: &[u64; 256], tn: usize, l: u32, list: &mut [u64; 256]) -> Option<usize>
     requires { (tn ≤ 256) × (l ≤ 32) }
     ensures within { Within result }

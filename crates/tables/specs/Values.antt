@@ -17,10 +17,6 @@ use Rattle.tables.specs.Lists.{list_words, strings}
 abbrev pub most_variables : ℕ
 most_variables = 32
 
--- The table value of these parts.
-abbrev pub parts : ℕ → ℕ → List ℕ → List ℕ → Table
-parts l n care value = record { l = l; n = n; care = care; value = value }
-
 -- ---- The value of a list, and back
 
 -- The table that stands for a list of strings of l positions: its words, with zeros up to 256.

@@ -5,8 +5,7 @@ ghost use Rattle.std.specs.Prelude.{◌≡◌, cond, [], ◌∷◌, ◌≤◌};
 ghost use Rattle.model.specs.Strings.{stars};
 ghost use Rattle.tables.specs.Refusals.{refusal_number, answer_number, Accepted};
 ghost use Rattle.tables.specs.Values.{zeros_of, zero_table, accepts, refuses, good_width, check_table, GoodTable};
-ghost use Rattle.tables.specs.Values.{of_width, parts};
-ghost use Rattle.tables.specs.Values.{all_clean, zero_past};
+ghost use Rattle.tables.specs.Values.{of_width, all_clean, zero_past};
 
 // A table value: l variables, n entries in order, and zeros past the count. Bit i - 1 of a word is for Xi.
 #[repr(C)]
@@ -35,7 +34,8 @@ pub enum Refusal {
     Digit,
 }
 
-// An answer with the table that goes with it.
+// An answer with the table that goes with it. No `Result<Table, Refusal>`: a refusal hands back the table that came in (the
+// clause of `operations::equation`, theorems of `demands/specs/Demand3`).
 #[derive(Clone, Copy)]
 pub struct Answered {
     pub answer: Result<(), Refusal>,
@@ -43,22 +43,24 @@ pub struct Answered {
 }
 
 // The number of a refusal.
-pub fn refusal_number(r: Refusal) -> u32
-    ensures { result ≡ refusal_number r }
-{
-    match r {
-        Refusal::Torn => 1,
-        Refusal::Width => 2,
-        Refusal::Entries => 3,
-        Refusal::Stray => 4,
-        Refusal::Name => 5,
-        Refusal::Term => 6,
-        Refusal::Long => 7,
-        Refusal::Full => 8,
-        Refusal::Narrow => 9,
-        Refusal::Unlike => 10,
-        Refusal::Keep => 11,
-        Refusal::Digit => 12,
+impl From<Refusal> for u32 {
+    ghost from_gives = { λ r number. number ≡ refusal_number r };
+
+    fn from(r: Refusal) -> u32 {
+        match r {
+            Refusal::Torn => 1,
+            Refusal::Width => 2,
+            Refusal::Entries => 3,
+            Refusal::Stray => 4,
+            Refusal::Name => 5,
+            Refusal::Term => 6,
+            Refusal::Long => 7,
+            Refusal::Full => 8,
+            Refusal::Narrow => 9,
+            Refusal::Unlike => 10,
+            Refusal::Keep => 11,
+            Refusal::Digit => 12,
+        }
     }
 }
 
@@ -68,7 +70,7 @@ pub fn answer_number(a: Result<(), Refusal>) -> u32
 {
     match a {
         Ok(()) => 0,
-        Err(r) => refusal_number(r),
+        Err(r) => u32::from(r),
     }
 }
 
@@ -166,30 +168,24 @@ fn zero_past<'a>(care: &'a [u32; 256], value: &'a [u32; 256], n: usize) -> bool
     some == 0
 }
 
-// Does the table value of these parts meet 2, 3 or 4? Inner: not a public call.
-pub fn check_parts<'a>(
-    l: u32,
-    n: usize,
-    care: &'a [u32; 256],
-    value: &'a [u32; 256],
-) -> Result<(), Refusal>
-    ensures answer { result ≡ check_table (parts l n care.now value.now) }
-    ensures good { (result ≡ Accepted → GoodTable (parts l n care.now value.now))
-        × (GoodTable (parts l n care.now value.now) → result ≡ Accepted) }
+// Does a table value that is lent meet 2, 3 or 4? Inner: not a public call.
+pub fn check_parts(t: &Table) -> Result<(), Refusal>
+    ensures answer { result ≡ check_table t.now }
+    ensures good { (result ≡ Accepted → GoodTable t.now) × (GoodTable t.now → result ≡ Accepted) }
 {
     // As slices their length is known.
-    let cares: &[u32] = care;
-    let values: &[u32] = value;
-    if !good_width(l) {
+    let cares: &[u32] = &t.care;
+    let values: &[u32] = &t.value;
+    if !good_width(t.l) {
         return Err(Refusal::Width);
     }
-    if Table::ENTRIES < n {
+    if Table::ENTRIES < t.n {
         return Err(Refusal::Entries);
     }
-    if !all_clean(care, value, n, l) {
+    if !all_clean(&t.care, &t.value, t.n, t.l) {
         return Err(Refusal::Stray);
     }
-    if !zero_past(care, value, n) {
+    if !zero_past(&t.care, &t.value, t.n) {
         return Err(Refusal::Stray);
     }
     Ok(())
@@ -200,5 +196,5 @@ pub fn check(t: Table) -> Result<(), Refusal>
     ensures answer { result ≡ check_table t }
     ensures good { (result ≡ Accepted → GoodTable t) × (GoodTable t → result ≡ Accepted) }
 {
-    check_parts(t.l, t.n, &t.care, &t.value)
+    check_parts(&t)
 }

@@ -29,7 +29,7 @@ pub enum Kind {
 }
 
 // An equation x = t as the procedures need it: the set of x alone, the set of t's variables, bit i - 1 for Xi, and the kind.
-#[derive(Clone, Copy)]
+#[derive(Clone, Copy, Debug, PartialEq, Eq)]
 pub struct Equation {
     pub left: u32,
     pub right: u32,

@@ -6,14 +6,15 @@ pub mod runs; // a table, an equation, a run
 
 use running::Running;
 
-// What is answered of a run: its state, and the length of the text that was measured or written.
+// What is answered of a run: its state, and the length of the text that was measured or written. No `Result`: a refused run has
+// both too (`refused_report`).
 #[derive(Clone, Copy)]
 pub struct Reported {
     pub state: Running,
     pub size: usize,
 }
 
-// A text is measured first, and written only where it fits.
+// A text is measured first, and written only where it fits. Contracts name the pass (`passed`), which a closure has not.
 #[derive(Clone, Copy, Debug, PartialEq, Eq)]
 pub enum Pass {
     Measure,

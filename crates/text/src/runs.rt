@@ -50,7 +50,7 @@ fn write_refused(pass: Pass, out: &mut [u8], at: usize, k: u32, r: Refusal, t: T
     ensures { (result ≡ at + length (equation_text k (Refused r) t))
         × (out.new ≡ passed pass out.old at (equation_text k (Refused r) t)) }
 {
-    let code = tables::refusal_number(r);
+    let code = u32::from(r);
     let end = at + crate::lines::line_length(EQ, k, REFUSED, code);
     match pass {
         Pass::Measure => end,
@@ -102,13 +102,14 @@ pub fn write_run(pass: Pass, t: Table, q: &[u8], out: &mut [u8]) -> Reported
     let mut end = write_first(pass, out, t);
     let mut u = t;
     let mut c = equation_forms::first(q);
+    // A `while`: the cursor moves on by the length of the equation that stands at it.
     while equation_forms::more(c) {
         let a = running::step(Left::Variable, Side::Positive, u, c, q);
         u = a.table;
         end = write_equation(pass, out, end, c.k as u32 + 1, a.answer, u);
         if let Err(r) = a.answer {
             return Reported {
-                state: running::stopped(tables::refusal_number(r), 0, c.k, u),
+                state: running::stopped(u32::from(r), 0, c.k, u),
                 size: end,
             };
         }

@@ -10,14 +10,14 @@ ghost use Rattle.walks.specs.Cursors.{Across, Rest, Next, clash};
 use terms::Equation;
 
 // The term across: where it ends, and the set of its variables, bit i - 1 for Xi.
-#[derive(Clone, Copy)]
+#[derive(Clone, Copy, Debug, PartialEq, Eq)]
 struct Passed {
     end: usize,
     set: u32,
 }
 
 // What the walk finds next: an equation, with the cursors i and j to go on from; or a clash; or the end of both rows.
-#[derive(Clone, Copy)]
+#[derive(Clone, Copy, Debug, PartialEq, Eq)]
 pub enum Found {
     Equation { found: Equation, i: usize, j: usize },
     Clash,

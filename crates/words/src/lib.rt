@@ -25,30 +25,33 @@ pub const LOW: u64 = 4294967295;
 
 // As a table has a string: bit i of `care` is 1 where position i is fixed; bit i of `value` is its value there, and 0 where
 // it is `*`.
-#[derive(Clone, Copy)]
+#[derive(Clone, Copy, Debug, PartialEq, Eq)]
 pub struct Entry {
     pub care: u32,
     pub value: u32,
 }
 
 // The word of the string with this care and value.
-pub fn word_of(e: Entry) -> u64
-    ensures words { result ≡ word_of e }
-    ensures strings { (s : Trits) → e ≡ entry_string s → result ≡ word_string s }
-{
-    let z = e.care ^ e.value;
-    ((z as u64) << 32) | (e.value as u64)
+impl From<Entry> for u64 {
+    ghost from_gives = { λ e a. (a ≡ word_of e) × ((s : Trits) → e ≡ entry_string s → a ≡ word_string s) };
+
+    fn from(e: Entry) -> u64 {
+        let z = e.care ^ e.value;
+        ((z as u64) << 32) | (e.value as u64)
+    }
 }
 
 // The care and value of the string with this word.
-pub fn entry_of(a: u64) -> Entry
-    ensures words { result ≡ entry_of a }
-    ensures strings { (s : Trits) → length s ≤ 32 → a ≡ word_string s → result ≡ entry_string s }
-{
-    let c = fixed(a);
-    Entry {
-        care: c as u32,
-        value: (a % HALF) as u32,
+impl From<u64> for Entry {
+    ghost from_gives = { λ a e. (e ≡ entry_of a)
+        × ((s : Trits) → length s ≤ 32 → a ≡ word_string s → e ≡ entry_string s) };
+
+    fn from(a: u64) -> Entry {
+        let c = fixed(a);
+        Entry {
+            care: c as u32,
+            value: (a % HALF) as u32,
+        }
     }
 }
 

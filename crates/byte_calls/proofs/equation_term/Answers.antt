@@ -1,4 +1,4 @@
--- What came of the call on the parts, as an answer.
+-- What came of the call on the lent table, as an answer.
 use Rattle.byte_calls.proofs.equation_term.Goals as goal
 
 pub answered-requires : goal.answered-requires

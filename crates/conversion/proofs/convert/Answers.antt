@@ -16,7 +16,7 @@ returns-in_err-n-clause-made c =
     rw c.from_residual.ensures (λ b.
     let i = c.loop-w.w-index in
     let w = c.loop-w.invariant.1 b in
-    let y = c.word_of-y.ensures.strings _ (row_entry _ _ _ i b (omega arith) c.full-full.ensures) in
+    let y = c.from-y.ensures.1 _ (row_entry _ _ _ i b (omega arith) c.full-full.ensures) in
     let made = c.grow.ensures.made _ _ w.held (row_length _ _ i) y in
     so_far_stop w (none _) (rw (length-map, length-map) (omega arith)) made c.in_err-n.was)
 
@@ -27,7 +27,7 @@ loop-w-preserved c =
       within_count c.grow.ensures.within is,
       λ b.
           let w = c.loop-w.invariant.1 b in
-          let y = c.word_of-y.ensures.strings _ (row_entry _ _ _ i b (omega arith) c.full-full.ensures) in
+          let y = c.from-y.ensures.1 _ (row_entry _ _ _ i b (omega arith) c.full-full.ensures) in
           let made = c.grow.ensures.made _ _ w.held (row_length _ _ i) y in
           so_far_step w (none _) (rw (length-map, length-map) (omega arith)) made is (λ κ s. tt),
     )

@@ -1,4 +1,4 @@
--- What came of the call on the parts, as an answer.
+-- What came of the call on the lent table, as an answer.
 use Rattle.operations.proofs.equation_checked.Goals as goal
 
 pub equation_parts-c-requires : goal.equation_parts-c-requires

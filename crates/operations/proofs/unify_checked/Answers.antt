@@ -1,4 +1,4 @@
--- What came of the call on the parts, as an answer.
+-- What came of the call on the lent table, as an answer.
 use Rattle.operations.proofs.unify_checked.Goals as goal
 
 pub unify_parts-c-requires : goal.unify_parts-c-requires

@@ -17,8 +17,8 @@ use Rattle.operations.proofs.unify_parts.Goals.{In_ok-check_sides}
 
 -- the two sides that were read, and their walk at its start
 read : (c : In_ok-check_sides) → let a = c.args in (s : Sides)
-    × (check_sides a.l a.left.now a.right.now ≡ reads s)
-    × Rest a.l a.left.now a.right.now 0 0 (walk_sides s)
+    × (check_sides a.t.now.l a.left.now a.right.now ≡ reads s)
+    × Rest a.t.now.l a.left.now a.right.now 0 0 (walk_sides s)
 read c =
     let o = answer_reads _ (sym c.in_ok-check_sides.ensures) in (
       o.0,

@@ -13,7 +13,7 @@ use Rattle.model.specs.Reasons.{together, made_up}
 use Rattle.model.proofs.Bits.{or_length}
 use Rattle.words.specs.Words.{set_word}
 use Rattle.words.proofs.Codec.{set_word_or}
-use Rattle.lists.specs.WorkingLists.{Holds}
+use Rattle.lists.specs.WorkingLists.{WordsOf}
 use Rattle.reasons.specs.Verdicts.{joins, touched}
 use Rattle.reasons.proofs.Searching.{made_up_word}
 use Rattle.reasons.proofs.joined.Goals as goal
@@ -30,7 +30,7 @@ made_up_test {l} k g τ whole is_r is_s e = sym (made_up_word l k g τ whole) �
 
 -- both entries are there, and the last test decides
 both_found : (c : After-together) → let a = c.args in
-    (l : ℕ) (τ : Entries) (x t k : Bits) → Holds l a.list.now a.n τ → length x ≡ l → length t ≡ l → length k ≡ l
+    (l : ℕ) (τ : Entries) (x t k : Bits) → WordsOf l a.list.now τ → length x ≡ l → length t ≡ l → length k ≡ l
     → a.mx ≡ set_word x → a.mt ≡ set_word t → a.s ≡ set_word k → (b : Bool) → eqb c.together.result a.s ≡ b
     → joins (some c.in-Some.i) (some c.in-Some-lowest.j) b ≡ touched l x t τ k
 unfolding touched

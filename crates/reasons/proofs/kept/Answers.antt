@@ -10,12 +10,12 @@ pub returns-then-subsumed : goal.returns-then-subsumed
 unfolding untouched
 returns-then-subsumed c =
     λ τ k h whole is.
-    let y = c.word_of-y.ensures.strings _ (group_entry k _ _ _ whole c.full.ensures is) in
+    let y = c.from-y.ensures.1 _ (group_entry k _ _ _ whole c.full.ensures is) in
     rw (sym (subsumed_group τ k) ∙ sym (c.subsumed.ensures.strings _ τ _ h (exactly_length k ∙ whole) y) ∙ c.if-subsumed.true)
 
 pub returns : goal.returns
 unfolding untouched
 returns c =
     λ τ k h whole is.
-    let y = c.word_of-y.ensures.strings _ (group_entry k _ _ _ whole c.full.ensures is) in
+    let y = c.from-y.ensures.1 _ (group_entry k _ _ _ whole c.full.ensures is) in
     rw (sym (subsumed_group τ k) ∙ sym (c.subsumed.ensures.strings _ τ _ h (exactly_length k ∙ whole) y) ∙ c.if-subsumed.false)

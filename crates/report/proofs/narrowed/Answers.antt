@@ -6,7 +6,7 @@ use Rattle.report.proofs.narrowed.Goals as goal
 pub returns-then-s-eq0 : goal.returns-then-s-eq0
 unfolding narrowed
 returns-then-s-eq0 c =
-    rw (c.if-s-eq0.true, c.refused.ensures, c.refusal_number.ensures)
+    rw (c.if-s-eq0.true, c.refused.ensures, c.from.ensures)
 
 pub returns-else-s-eq0 : goal.returns-else-s-eq0
 unfolding narrowed

@@ -11,5 +11,5 @@ pub returns : goal.returns
 unfolding value_call
 returns c =
     let a = c.args in
-    follows_step a.s (one_term a.x a.term.now) c.side_numbered-side.ensures
+    follows_step a.s.now (one_term a.x a.term.now) c.from-side.ensures
     (c.answered.ensures _ c.equation_parts-came.ensures.comes)

@@ -24,9 +24,9 @@ stopped-requires c =
 pub returns-in-Err : goal.returns-in-Err
 returns-in-Err c =
     let a = c.args in
-    rw (c.stopped.ensures, c.refusal_number.ensures)
+    rw (c.stopped.ensures, c.from.ensures)
     (so_far_stop c.loop-f.invariant (c.more.ensures.0 c.loop-f-test.true)
-    c.side_numbered-s.ensures c.step-a.ensures c.in-Err.is)
+    c.from-s.ensures c.step-a.ensures c.in-Err.is)
 
 pub next-c-requires : goal.next-c-requires
 next-c-requires c =
@@ -42,7 +42,7 @@ loop-f-preserved c =
     let a = c.args in
     rw c.next-c.ensures
     (so_far_step c.loop-f.invariant (c.more.ensures.0 c.loop-f-test.true)
-    c.side_numbered-s.ensures c.step-a.ensures (accepted_unless _ c.in_default.not-Err))
+    c.from-s.ensures c.step-a.ensures (accepted_unless _ c.in_default.not-Err))
 
 pub stopped-requires-2 : goal.stopped-requires-2
 stopped-requires-2 c =

@@ -18,13 +18,13 @@ apply-requires c =
 
 pub returns-in-Err : goal.returns-in-Err
 returns-in-Err c =
-    rw (c.refused.ensures, c.refusal_number.ensures)
+    rw (c.refused.ensures, c.from.ensures)
     (run_unread c.args.f c.args.side c.args.b.now c.args.q.now
     c.read_table-read.ensures c.in-Err.is)
 
 pub returns-in-Err-check : goal.returns-in-Err-check
 returns-in-Err-check c =
-    rw (c.refused-in-Err-check.ensures, c.refusal_number-in-Err-check.ensures)
+    rw (c.refused-in-Err-check.ensures, c.from-in-Err-check.ensures)
     (run_unchecked c.args.f c.args.side c.args.b.now c.args.q.now
     c.read_table-read.ensures (accepted_unless _ c.in_default.not-Err)
     (sym c.check.ensures ∙ c.in-Err-check.is))

@@ -28,7 +28,7 @@ table-requires c = read_few (listing (goal.at.table-requires c).In-Ok)
 pub returns-in-Err : goal.returns-in-Err
 returns-in-Err c =
     let a = c.args in
-    rw (c.refusal_number.ensures, c.zero.ensures)
+    rw (c.from.ensures, c.zero.ensures)
     (started_as a.side a.b.now (reads_refused c.read_list.ensures c.in-Err.is))
 
 pub returns-in-Ok : goal.returns-in-Ok

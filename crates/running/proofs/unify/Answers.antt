@@ -11,5 +11,5 @@ pub returns : goal.returns
 unfolding value_call
 returns c =
     let a = c.args in
-    follows_step a.s (two_terms a.left.now a.right.now) c.side_numbered-side.ensures
+    follows_step a.s.now (two_terms a.left.now a.right.now) c.from-side.ensures
     (c.answered.ensures _ c.unify_parts-came.ensures.comes)

@@ -6,7 +6,7 @@ pub returns-in-Err : goal.returns-in-Err
 returns-in-Err c =
     let a = c.args in
     let o = output_refused a.layout a.a a.out.now c.in-Err.is in
-    record { number = rw c.refusal_number.ensures o.0; bytes = o.1 }
+    record { number = rw c.from.ensures o.0; bytes = o.1 }
 
 pub returns-in-Ok : goal.returns-in-Ok
 returns-in-Ok c =

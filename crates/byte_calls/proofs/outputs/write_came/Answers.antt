@@ -13,13 +13,13 @@ write_list-requires c =
 pub returns-in-Err : goal.returns-in-Err
 returns-in-Err c =
     let x = c.args in
-    λ a comes. rw c.refusal_number.ensures
+    λ a comes. rw c.from.ensures
     (output_refusal x.layout x.out.now (came_refused comes c.in-Err.is))
 
 pub returns-in-Ok-Same : goal.returns-in-Ok-Same
 returns-in-Ok-Same c =
     let x = c.args in
-    λ a comes. rw c.refusal_number-in-Ok-Same.ensures
+    λ a comes. rw c.from-in-Ok-Same.ensures
     (output_zero x.layout x.out.now (came_same comes (let arm = c.in-Ok-Same in arm.is ∙ ap Ok (rw arm.is at arm.field-0-is))))
 
 pub returns-in-Ok-Count : goal.returns-in-Ok-Count

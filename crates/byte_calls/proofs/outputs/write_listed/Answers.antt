@@ -12,7 +12,7 @@ write_list-requires c =
 pub returns-in-Err : goal.returns-in-Err
 returns-in-Err c =
     let x = c.args in
-    λ a reads. rw c.refusal_number.ensures
+    λ a reads. rw c.from.ensures
     (output_refusal x.layout x.out.now (reads_refused reads c.in-Err.is))
 
 pub returns-in-Ok : goal.returns-in-Ok

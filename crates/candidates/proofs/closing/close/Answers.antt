@@ -21,14 +21,14 @@ pub returns-in_err-n-clause-made : goal.returns-in_err-n-clause-made
 returns-in_err-n-clause-made c =
     rw c.from_residual.ensures (λ γ h.
     each_stop (c.loop-i.invariant.1 γ h) (entry_here h _ c.loop-i-test.true)
-    (λ τ s t e is known. c.close_one.ensures.made τ s t e is) c.in_err-n.was)
+    c.close_one.ensures.made c.in_err-n.was)
 
 pub loop-i-preserved : goal.loop-i-preserved
 loop-i-preserved c = (
   within_count c.close_one.ensures.within c.in_ok-n.was,
   λ γ h.
       each_turn (c.loop-i.invariant.1 γ h) (entry_here h _ c.loop-i-test.true)
-      (λ τ s t e is known. c.close_one.ensures.made τ s t e is) c.in_ok-n.was (λ τ s κ t e is known got. tt),
+      c.close_one.ensures.made c.in_ok-n.was (λ τ s κ t e is known got. tt),
 )
 
 pub returns-clause-made : goal.returns-clause-made

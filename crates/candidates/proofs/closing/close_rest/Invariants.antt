@@ -12,4 +12,4 @@ use Rattle.candidates.proofs.closing.close_rest.Given as goal
 abbrev pub invariant-loop-s : goal.invariant-loop-s
 invariant-loop-s l = (l.k ≤ 256)
     × ((γ τ : Entries) → Holds l.l l.c l.cn γ → Holds l.l l.fn.list l.n τ
-    → SoFar l.l close_with (drop l.from γ) (fold close_with τ (drop l.from γ)) (Filters l.l l.seen) l.list l.k l.s-index)
+    → SoFar l.l close_with (drop l.from γ) (fold close_with τ (drop l.from γ)) (Filters l.l l.filter.seen) l.list l.k l.s-index)

@@ -3,7 +3,7 @@ use mathlib.Core.Path.{◌≡◌, sym, ◌∙◌}
 use Prim.Native.Nat.{◌≤◌}
 use native.Mathlib.Omega.{arith}
 use lib.ListN.{length}
-use Rattle.lists.proofs.Holding.{holds_length}
+use Rattle.lists.proofs.Slices.{words_length}
 use Rattle.covering.proofs.Pieces.{covered_none, left_start, left_skip, left_fail, left_next, left_done, answer}
 use Rattle.covering.proofs.Narrowing.{covered_subsumed, covered_narrowed}
 use Rattle.covering.proofs.cover.+covered.Goals as goal
@@ -37,7 +37,7 @@ returns-then-not-covered t c =
     let i = c.loop-i.i in
     let near = c.in-Some.ensures.bound in
     let a = c.loop-i.invariant.1 τ s h n e in
-    let long = holds_length h _ near in
+    let long = words_length h _ near in
     let v = h.here _ near in
     let short : length a.rest ≤ 32 = rw a.long h.short in
     let split = sym (c.splits.ensures.strings a.rest _ short (rw long h.short) a.is v) ∙ c.if-splits.true in
@@ -57,7 +57,7 @@ loop-i-preserved t c =
       ],
       λ τ s h n e.
           let a = c.loop-i.invariant.1 τ s h n e in
-          let long = holds_length h _ near in
+          let long = words_length h _ near in
           let v = h.here _ near in
           let short : length a.rest ≤ 32 = rw a.long h.short in
           let split = c.splits.ensures.strings a.rest _ short (rw long h.short) a.is v in
@@ -77,5 +77,5 @@ returns t c =
     λ τ s h n e.
     let near = c.in-Some.ensures.bound in
     let end : c.loop-i.i ≡ c.args.l = omega arith in
-    left_done _ _ τ s _ (omega (arith, near, h.count)) (holds_length h _ near)
+    left_done _ _ τ s _ (omega (arith, near, h.count)) (words_length h _ near)
     (rw end at (c.loop-i.invariant.1 τ s h n e))

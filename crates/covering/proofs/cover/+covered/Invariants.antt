@@ -4,7 +4,7 @@
 use mathlib.Core.List.{[]}
 use Prim.Native.Nat.{◌≤◌, ◌-◌, ◌^◌}
 use lib.ListN.{get_or}
-use Rattle.lists.specs.WorkingLists.{OfString}
+use Rattle.lists.specs.WorkingLists.{OfWords}
 use Rattle.covering.proofs.Pieces.{Left}
 use Rattle.covering.proofs.cover.+covered.Given as goal
 
@@ -13,4 +13,4 @@ decreases-covered l = 2 ^ 64 - l.y
 
 abbrev pub invariant-loop-i : goal.invariant-loop-i
 invariant-loop-i l = (l.y ≤ l.z)
-    × OfString l.l l.list l.n l.y (λ τ s. Left l.l l.i τ (get_or τ l.at []) s l.z)
+    × OfWords l.l l.list l.y (λ τ s. Left l.l l.i τ (get_or τ l.at []) s l.z)

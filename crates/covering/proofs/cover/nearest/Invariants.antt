@@ -7,7 +7,7 @@ use Rattle.std.specs.Prelude.{Option, Some, None, MatchOption}
 use lib.ListN.{length, get_or}
 use Rattle.model.specs.Strings.{Trits, matches}
 use Rattle.model.specs.Growth.{Entries}
-use Rattle.lists.specs.WorkingLists.{OfString}
+use Rattle.lists.specs.WorkingLists.{OfWords}
 use Rattle.covering.proofs.cover.nearest.Given as goal
 
 -- the best of the first i entries
@@ -16,5 +16,5 @@ Best τ s i (Some r) = (r < length τ) × (matches (get_or τ r []) s ≡ true)
 Best τ s i None = (k : ℕ) → k < i → matches (get_or τ k []) s ≡ false
 
 abbrev pub invariant-loop-i : goal.invariant-loop-i
-invariant-loop-i v = MatchOption v.best (64 < v.few) (λ r. r < v.n)
-    × ((l : ℕ) → OfString l v.list v.n v.y (λ τ s. Best τ s v.i v.best))
+invariant-loop-i v = MatchOption v.best (64 < v.few) (λ r. r < length v.list)
+    × ((l : ℕ) → OfWords l v.list v.y (λ τ s. Best τ s v.i v.best))

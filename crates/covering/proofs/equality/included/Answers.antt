@@ -1,7 +1,8 @@
 use mathlib.Core.Path.{sym, ◌∙◌}
 use Prim.Native.Nat.{◌<◌}
+use lib.ListN.{length}
 use native.Mathlib.Omega.{arith}
-use Rattle.lists.proofs.Holding.{holds_length, holds_slice}
+use Rattle.lists.proofs.Slices.{words_length}
 use Rattle.covering.proofs.Inclusion.{within_next, within_end}
 use Rattle.covering.proofs.equality.included.Goals as goal
 
@@ -9,8 +10,8 @@ pub returns-then-not-covered : goal.returns-then-not-covered
 returns-then-not-covered c =
     λ α β ha hb.
     let w = c.loop-e in
-    let lt : w.e-index < c.args.an = omega arith in
-    let answer = c.covered.ensures β _ hb (holds_length ha _ lt) (holds_slice ha _ lt) in
+    let lt : w.e-index < length c.args.a.now = omega arith in
+    let answer = c.covered.ensures β _ hb (words_length ha _ lt) (ha.here _ lt) in
     sym (w.invariant α β ha hb
     ∙ within_next _ β α _ (omega (arith, lt, ha.count)) _ (sym (c.if-not-covered.true) ∙ answer))
 
@@ -18,8 +19,8 @@ pub loop-e-preserved : goal.loop-e-preserved
 loop-e-preserved c =
     λ α β ha hb.
     let w = c.loop-e in
-    let lt : w.e-index < c.args.an = omega arith in
-    let answer = c.covered.ensures β _ hb (holds_length ha _ lt) (holds_slice ha _ lt) in
+    let lt : w.e-index < length c.args.a.now = omega arith in
+    let answer = c.covered.ensures β _ hb (words_length ha _ lt) (ha.here _ lt) in
     w.invariant α β ha hb
     ∙ within_next _ β α _ (omega (arith, lt, ha.count)) _ (sym (c.if-not-covered.false) ∙ answer)
 

@@ -5,7 +5,7 @@ use native.Mathlib.Omega.{arith}
 use lib.ListN.{length, drop}
 use Rattle.model.specs.Tables.{positive}
 use Rattle.model.specs.Questions.{independent}
-use Rattle.lists.proofs.Holding.{holds_length, holds_slice}
+use Rattle.lists.proofs.Slices.{words_length}
 use Rattle.covering.proofs.MeetingSets.{positive_next, positive_end}
 use Rattle.covering.proofs.independence.independent_positive.Goals as goal
 
@@ -13,22 +13,22 @@ pub returns-then-joins : goal.returns-then-joins
 returns-then-joins c =
     λ l τ x y h u v p q.
     let i = c.loop-e.e-index in
-    let lt : i < c.args.n = omega arith in
-    let n = holds_length h i lt in
+    let lt : i < length c.args.list.now = omega arith in
+    let n = words_length h i lt in
     sym (c.loop-e.invariant l τ x y h u v p q
     ∙ positive_next l x y τ i (omega (arith, lt, h.count)) n _
-    (c.joins.ensures _ x y (rw n h.short) (u ∙ sym n) (v ∙ sym n) (holds_slice h i lt) p q)
+    (c.joins.ensures _ x y (rw n h.short) (u ∙ sym n) (v ∙ sym n) (h.here i lt) p q)
     ∙ ap (λ (r : Bool). not r && independent positive l (drop (i + 1) τ) x y) c.if-joins.true)
 
 pub loop-e-preserved : goal.loop-e-preserved
 loop-e-preserved c =
     λ l τ x y h u v p q.
     let i = c.loop-e.e-index in
-    let lt : i < c.args.n = omega arith in
-    let n = holds_length h i lt in
+    let lt : i < length c.args.list.now = omega arith in
+    let n = words_length h i lt in
     c.loop-e.invariant l τ x y h u v p q
     ∙ positive_next l x y τ i (omega (arith, lt, h.count)) n _
-    (c.joins.ensures _ x y (rw n h.short) (u ∙ sym n) (v ∙ sym n) (holds_slice h i lt) p q)
+    (c.joins.ensures _ x y (rw n h.short) (u ∙ sym n) (v ∙ sym n) (h.here i lt) p q)
     ∙ ap (λ (r : Bool). not r && independent positive l (drop (i + 1) τ) x y) c.if-joins.false
 
 pub returns : goal.returns

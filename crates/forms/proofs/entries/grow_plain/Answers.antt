@@ -26,7 +26,7 @@ made c =
     let p = c.requires in
     let i = c.loop-i.i in
     let lt = c.loop-i-test.true in
-    let is = c.word_of-y.ensures.words ∙ ap word_of c.entry_at.ensures
+    let is = c.from-y.ensures.0 ∙ ap word_of c.entry_at.ensures
     ∙ entry_word a.l a.n a.b.now i lt p.3 in
     c.grow.ensures.made _ _ c.loop-i.invariant.1.held
     (wide_at a.l _ i (entries_wide Plain a.l a.n a.b.now p.2)

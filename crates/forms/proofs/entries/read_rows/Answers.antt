@@ -71,7 +71,7 @@ loop-i-preserved c =
       length-set lp.row lp.i _ ∙ lp.invariant.0,
       rows_tested a.l a.n a.b.now lp.i c.loop-i-test.true lp.invariant.1 ∙ rw told.0,
       run_turn lp.row (λ m. word (unpacked a.l (row_at a.l a.b.now m))) lp.i _ (omega (arith, lp.invariant.0)) lp.invariant.2
-          (c.word_of.ensures.strings _ told.1),
+          (c.from.ensures.1 _ told.1),
     )
 
 pub returns : goal.returns

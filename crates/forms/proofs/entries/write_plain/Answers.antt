@@ -61,7 +61,7 @@ loop-i-preserved c =
       c.write_word-in-loop-i.auto.b ∙ c.write_word.auto.b ∙ lp.invariant.0,
       λ τ h.
           let long = holds_length h lp.i lt in
-          let is = c.entry_of-e.ensures.strings (get_or τ lp.i []) (rw long h.short)
+          let is = c.from-e.ensures.1 (get_or τ lp.i []) (rw long h.short)
           (get_or-take a.n ws lp.i 0 lt ∙ h.here lp.i lt) in
           let w = table_words h lp.i lt is in
           let t = table_of a.l τ in

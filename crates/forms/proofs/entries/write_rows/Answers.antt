@@ -13,7 +13,7 @@ use Rattle.codec.proofs.Rows.{row_in}
 use Rattle.forms.proofs.PackedRows.{rows_most, rows_turn}
 use Rattle.forms.proofs.Writing.{entry_encodes}
 use Rattle.forms.proofs.entries.write_rows.Goals as goal
-use Rattle.forms.proofs.entries.write_rows.Goals.{After-entry_of-e, In-loop-i}
+use Rattle.forms.proofs.entries.write_rows.Goals.{After-from-e, In-loop-i}
 
 -- where the row at i begins, and its length
 abbrev place : In-loop-i → ℕ
@@ -33,16 +33,16 @@ within c =
     (omega (arith, here), rows_most h.short few c.row_length-k.ensures, few)
 
 -- the entry at i is that of the string at i
-encoded : (c : After-entry_of-e) → let a = c.args in
+encoded : (c : After-from-e) → let a = c.args in
     (τ : Entries) → Holds a.l a.list.now a.n τ
-    → Encodes a.l c.entry_of-e.result × (string a.l c.entry_of-e.result ≡ get_or τ c.loop-i.i [])
+    → Encodes a.l c.from-e.result × (string a.l c.from-e.result ≡ get_or τ c.loop-i.i [])
 encoded c τ h =
     let i = c.loop-i.i in
     let ws = c.args.list.now in
     let lt : i < c.args.n = omega (arith, length-take c.args.n ws) in
     let long = holds_length h i lt in
     entry_encodes long
-    (c.entry_of-e.ensures.strings (get_or τ i []) (rw long h.short) (get_or-take c.args.n ws i 0 lt ∙ h.here i lt))
+    (c.from-e.ensures.1 (get_or τ i []) (rw long h.short) (get_or-take c.args.n ws i 0 lt ∙ h.here i lt))
 
 pub loop-i-init : goal.loop-i-init
 unfolding joined
@@ -54,7 +54,7 @@ pack-requires c =
     let told = c.row_length-k.ensures in
     let room = rw (← told) at c.requires.1 in (
       held.1.short,
-      (encoded (goal.at.pack-requires c).After-entry_of-e held.0 held.1).0,
+      (encoded (goal.at.pack-requires c).After-from-e held.0 held.1).0,
       rw (← told) (omega (arith, (within (goal.at.pack-requires c).In-loop-i).0, room, c.loop-i.invariant.0)),
     )
 
@@ -65,6 +65,6 @@ loop-i-preserved c =
       c.pack.auto.b ∙ lp.invariant.0,
       λ τ h.
           c.pack.ensures
-          ∙ rw (c.row_length-k.ensures, (encoded (goal.at.loop-i-preserved c).After-entry_of-e τ h).1)
+          ∙ rw (c.row_length-k.ensures, (encoded (goal.at.loop-i-preserved c).After-from-e τ h).1)
           (rows_turn a.l τ a.out.now lp.out lp.i h.good.wide (omega (arith, h.count)) (lp.invariant.1 τ h)),
     )

@@ -3,19 +3,19 @@ use mathlib.Core.Bool.{Bool}
 use mathlib.Core.List.{List}
 use Prim.Native.Nat.{ℕ, ◌+◌, ◌*◌}
 use native.Mathlib.Omega.{arith}
-use lib.ListN.{get_or}
+use lib.ListN.{length, get_or}
 use Rattle.model.specs.Growth.{subsumed}
 use Rattle.words.specs.Words.{subsumes_word}
 use Rattle.tables.specs.Lists.{some_from}
 use Rattle.tables.proofs.Scans.{some_scan, scan_start, block_found, block_none, block_last}
-use Rattle.lists.specs.WorkingLists.{OfString}
-use Rattle.lists.proofs.WordTests.{holds_subsumed}
+use Rattle.lists.specs.WorkingLists.{OfWords}
+use Rattle.lists.proofs.WordTests.{words_subsumed}
 use Rattle.lists.proofs.growth.subsumed.Goals as goal
 
 -- what is answered of the words is so of the strings
-of_strings : {list : List ℕ} {n y : ℕ} {r : Bool} → r ≡ some_from 0 n (λ m. subsumes_word (get_or list m 0) y)
-    → (l : ℕ) → OfString l list n y (λ τ s. r ≡ subsumed τ s)
-of_strings e = λ l τ s h long is. e ∙ holds_subsumed h s long is
+of_strings : {list : List ℕ} {y : ℕ} {r : Bool} → r ≡ some_from 0 (length list) (λ m. subsumes_word (get_or list m 0) y)
+    → (l : ℕ) → OfWords l list y (λ τ s. r ≡ subsumed τ s)
+of_strings e = λ l τ s h long is. e ∙ words_subsumed h s long is
 
 pub returns-then-n-lt8 : goal.returns-then-n-lt8
 returns-then-n-lt8 c =

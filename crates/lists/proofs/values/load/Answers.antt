@@ -13,5 +13,5 @@ loop-i-preserved c =
       length-set lp.list lp.i _ ∙ lp.invariant.0,
       λ l τ h.
           run_turn lp.list (λ m. word (get_or τ m [])) lp.i _ (omega (arith, lp.invariant.0)) (lp.invariant.1 l τ h)
-          (c.word_of.ensures.strings (get_or τ lp.i []) (stores_at h lp.i (omega arith))),
+          (c.from.ensures.1 (get_or τ lp.i []) (stores_at h lp.i (omega arith))),
     )

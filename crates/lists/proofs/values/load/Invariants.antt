@@ -11,4 +11,4 @@ use Rattle.lists.proofs.values.load.Given as goal
 abbrev pub invariant-loop-i : goal.invariant-loop-i
 invariant-loop-i v =
     (length v.list ≡ 256)
-    × ((l : ℕ) (τ : Entries) → Stores l v.care v.value v.n τ → (m : ℕ) → m < v.i → get_or v.list m 0 ≡ word (get_or τ m []))
+    × ((l : ℕ) (τ : Entries) → Stores l v.t.care v.t.value v.t.n τ → (m : ℕ) → m < v.i → get_or v.list m 0 ≡ word (get_or τ m []))

@@ -15,7 +15,7 @@ loop-i-preserved c =
     let lp = c.loop-i in
     λ τ h.
     let w = lp.invariant τ h in
-    let is = c.entry_of-e.ensures.strings (get_or τ lp.i []) (rw (holds_length h lp.i (omega arith)) h.short)
+    let is = c.from-e.ensures.1 (get_or τ lp.i []) (rw (holds_length h lp.i (omega arith)) h.short)
     (h.here lp.i (omega arith)) in (
       column_turn _ τ w.0 _ (omega arith) (ap (λ (e : Entry). e.care) is),
       column_turn _ τ w.1 _ (omega arith) (ap (λ (e : Entry). e.value) is),

@@ -5,8 +5,7 @@ use native.Mathlib.Numerals.{add-one}
 use native.Mathlib.Omega.{arith}
 use borrow.Author.Tests.{eq-eqb, ne_eqb}
 use lib.Bits.{bit_and, bit_or, or_zero_r}
-use lib.ListN.{get_or}
-use Rattle.std.proofs.lemmas.List.{get_or-take}
+use lib.ListN.{length, get_or}
 use Rattle.reasons.specs.Entries.{largest_word, part_word, parts_word}
 use Rattle.reasons.proofs.Searching.{together_is}
 use Rattle.reasons.proofs.entries.together.Goals as goal
@@ -31,8 +30,7 @@ pub loop-e-preserved : goal.loop-e-preserved
 loop-e-preserved c =
     let w = c.loop-e in
     let list = c.args.list.now in
-    let lt : w.e-index < c.args.n = omega arith in
-    let g = c.largest-g.ensures.words ∙ ap (λ (e : ℕ). largest_word e c.args.s) (get_or-take c.args.n list w.e-index 0 lt) in
+    let g = c.largest-g.ensures.words in
     elim c.if-g-m-ne0.branch [
       | then-g-m-ne0 p ↦ p.set-is ∙ gathered list _ _ _ _ _ w.invariant g p.if-g-m-ne0.true
       | else-g-m-ne0 p ↦ p.set-is ∙ passed list _ _ _ _ _ w.invariant g p.if-g-m-ne0.false
@@ -41,5 +39,5 @@ loop-e-preserved c =
 pub returns : goal.returns
 returns c =
     λ l τ r k h whole long is_s is_m.
-    let end : c.loop-e.e-index ≡ c.args.n = omega arith in
+    let end : c.loop-e.e-index ≡ length c.args.list.now = omega arith in
     c.loop-e.invariant ∙ ap (parts_word _ _ _) end ∙ together_is h r k whole is_s is_m

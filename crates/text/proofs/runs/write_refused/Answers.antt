@@ -19,7 +19,7 @@ overflow_add-end c =
       c.line_length.ensures,
       decimal_most c.args.k,
       decimal_most
-          c.refusal_number-code.result,
+          c.from-code.result,
     )
 
 pub write_line-requires : goal.write_line-requires
@@ -27,16 +27,16 @@ unfolding equation_text
 write_line-requires c =
     let room = c.requires.2 c.in-Write.is in (
       c.requires.1,
-      rw c.refusal_number-code.ensures (code_small c.args.r),
+      rw c.from-code.ensures (code_small c.args.r),
       rw
-          c.refusal_number-code.ensures room,
+          c.from-code.ensures room,
     )
 
 pub returns-in-Measure : goal.returns-in-Measure
 unfolding equation_text
 returns-in-Measure c =
     let own = line_length eq (32 ∷ refused) c.args.k (refusal_number c.args.r) in (
-      rw (c.line_length.ensures, c.refusal_number-code.ensures) (omega (arith, own)),
+      rw (c.line_length.ensures, c.from-code.ensures) (omega (arith, own)),
       as_measured c.in-Measure.is _ _ _,
     )
 
@@ -47,7 +47,7 @@ pub returns-in-Write : goal.returns-in-Write
 unfolding equation_text
 returns-in-Write c =
     let own = line_length eq (32 ∷ refused) c.args.k (refusal_number c.args.r) in (
-      rw (c.line_length.ensures, c.refusal_number-code.ensures) (omega (arith, own)),
-      rw (c.write_line.ensures, c.refusal_number-code.ensures) (as_written
+      rw (c.line_length.ensures, c.from-code.ensures) (omega (arith, own)),
+      rw (c.write_line.ensures, c.from-code.ensures) (as_written
           c.in-Write.is c.args.out.now _ c.args.at),
     )

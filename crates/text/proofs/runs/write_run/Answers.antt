@@ -61,7 +61,7 @@ returns-in-Err c =
     (c.more.ensures.0 c.loop-pass-test.true) c.step-a.ensures told.1 told.0
     c.in-Err.is in
     let all = all_written a.pass a.out.now a.t _ c.requires.2 first.1 first.0 stop.1 in
-    (rw (c.stopped.ensures, c.refusal_number.ensures, all.0, stop.0), all.1)
+    (rw (c.stopped.ensures, c.from.ensures, all.0, stop.0), all.1)
 
 pub next-c-requires : goal.next-c-requires
 next-c-requires c =

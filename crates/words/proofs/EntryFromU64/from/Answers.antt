@@ -2,12 +2,9 @@
 use Rattle.std.proofs.Common.{refl}
 use Rattle.words.specs.Words.{entry_of, fixed_word}
 use Rattle.words.proofs.Words.{entry_back}
-use Rattle.words.proofs.entry_of.Goals as goal
+use Rattle.words.proofs.EntryFromU64.from.Goals as goal
 
 pub returns : goal.returns
 unfolding entry_of fixed_word
 returns c =
-    rw c.fixed-c.ensures.words record {
-      words = refl;
-      strings = λ s short ea. rw ea (entry_back s short);
-    }
+    rw c.fixed-c.ensures.words (refl, λ s short ea. rw ea (entry_back s short))

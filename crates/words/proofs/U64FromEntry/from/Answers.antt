@@ -4,7 +4,7 @@ use lib.Bits.{bit_xor, xor_lt}
 use Rattle.words.specs.Words.{word_of}
 use Rattle.words.proofs.Halves.{halves_or}
 use Rattle.words.proofs.Words.{word_of_entry}
-use Rattle.words.proofs.word_of.Goals as goal
+use Rattle.words.proofs.U64FromEntry.from.Goals as goal
 
 pub overflow_cast-result : goal.overflow_cast-result
 overflow_cast-result c =
@@ -19,7 +19,4 @@ returns c =
     let is = halves_or (bit_xor e.care e.value) e.value
     (xor_lt 32 e.care e.value (search rules) (search rules))
     (search rules) in
-    record {
-      words = is;
-      strings = λ s es. is ∙ rw es (word_of_entry s);
-    }
+    (is, λ s es. is ∙ rw es (word_of_entry s))

@@ -1,7 +1,7 @@
 -- By cases: the number is 0, or it is not.
 use borrow.Author.Tests.{eq-eqb, ne_eqb}
 use Rattle.operations.specs.Operations.{side_numbered}
-use Rattle.operations.proofs.side_numbered.Goals as goal
+use Rattle.operations.proofs.SideFromU32.from.Goals as goal
 
 pub returns-then-number-eq0 : goal.returns-then-number-eq0
 unfolding side_numbered
