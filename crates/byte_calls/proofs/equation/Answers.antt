@@ -8,9 +8,11 @@ use Rattle.byte_calls.proofs.equation.Goals as goal
 pub returns-in-Err : goal.returns-in-Err
 unfolding equation_bytes
 returns-in-Err c =
-    c.refused.ensures ∙ whole_stops c.args.b.now refuses_zero (λ t. term_call (side_of c.args.side) t c.args.x c.args.term.now) c.in-Err.ensures
+    c.refused.ensures ∙ whole_stops c.args.b.now refuses_zero
+    (λ t. term_call (side_of c.args.side) t c.args.x c.args.term.now) c.in-Err.ensures
 
 pub returns-in-Ok : goal.returns-in-Ok
 unfolding equation_bytes
 returns-in-Ok c =
-    c.equation_term.ensures ∙ whole_goes_on c.args.b.now refuses_zero (λ t. term_call (side_of c.args.side) t c.args.x c.args.term.now) c.in-Ok.ensures
+    c.equation_term.ensures ∙ whole_goes_on c.args.b.now refuses_zero
+    (λ t. term_call (side_of c.args.side) t c.args.x c.args.term.now) c.in-Ok.ensures

@@ -12,9 +12,11 @@ pub returns-in_err-t : goal.returns-in_err-t
 unfolding independent_bytes
 returns-in_err-t c =
     let p = err_from_is_err_and c.from_residual.result c.from_residual.ensures.1 in
-    rw (p.1, p.2) (whole_stops c.args.b.now Refused (λ t. independent_call (side_of c.args.side) t c.args.first c.args.second) c.in_err-t.ensures)
+    rw (p.1, p.2) (whole_stops c.args.b.now Refused
+    (λ t. independent_call (side_of c.args.side) t c.args.first c.args.second) c.in_err-t.ensures)
 
 pub returns : goal.returns
 unfolding independent_bytes
 returns c =
-    c.independent.ensures ∙ whole_goes_on c.args.b.now Refused (λ t. independent_call (side_of c.args.side) t c.args.first c.args.second) c.in_ok-t.ensures
+    c.independent.ensures ∙ whole_goes_on c.args.b.now Refused
+    (λ t. independent_call (side_of c.args.side) t c.args.first c.args.second) c.in_ok-t.ensures

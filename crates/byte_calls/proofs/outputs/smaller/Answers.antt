@@ -42,10 +42,14 @@ returns-then-a-b c =
     c.read_table-b.ensures (p_reads at.In_default) (q_reads at.In_default-answer) c.if-a-b.true
 
 pub number_at-m-requires : goal.number_at-m-requires
-number_at-m-requires c = omega (arith, front_sized c.args.p.now (front_reads _ c.read_table-a.ensures (p_reads (goal.at.number_at-m-requires c).In_default)))
+number_at-m-requires c =
+    let at = goal.at.number_at-m-requires c in
+    omega (arith, front_sized c.args.p.now (front_reads _ c.read_table-a.ensures (p_reads at.In_default)))
 
 pub number_at-n-requires : goal.number_at-n-requires
-number_at-n-requires c = omega (arith, front_sized c.args.q.now (front_reads _ c.read_table-b.ensures (q_reads (goal.at.number_at-n-requires c).In_default-answer)))
+number_at-n-requires c =
+    let at = goal.at.number_at-n-requires c in
+    omega (arith, front_sized c.args.q.now (front_reads _ c.read_table-b.ensures (q_reads at.In_default-answer)))
 
 pub front_length-requires : goal.front_length-requires
 front_length-requires c =
