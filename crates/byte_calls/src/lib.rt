@@ -153,7 +153,7 @@ pub fn unify_terms(side: Side, t: Table, left: &[u8], right: &[u8]) -> Answered
     lists::values::answered(t.l, t, came, &list)
 }
 
-// Converts groups, bit i - 1 for Xi, and writes the plain form. The number of the answer.
+// Converts groups, bit i - 1 for Xi, and writes the plain form. The number of the answer, for C.
 pub fn convert(l: u32, groups: &[u32], out: &mut [u8]) -> u32
     ensures number { result ≡ output_number (convert_call l groups.now) out.old }
     ensures bytes { out.new ≡ output_bytes (convert_call l groups.now) out.old }
@@ -163,7 +163,8 @@ pub fn convert(l: u32, groups: &[u32], out: &mut [u8]) -> u32
     outputs::write_came(Layout::Plain, l, came, &list, out)
 }
 
-// Reads a form, which grows its entries, and writes it again, in the same layout or the other. The number of the answer.
+// Reads a form, which grows its entries, and writes it again, in the same layout or the other. The number of the answer, for
+// C.
 pub fn rewrite(from: Layout, extent: Extent, to: Layout, b: &[u8], out: &mut [u8]) -> u32
     ensures number { result ≡ output_number_as to (read_form from extent b.now) out.old }
     ensures bytes { out.new ≡ output_bytes_as to (read_form from extent b.now) out.old }

@@ -31,7 +31,7 @@ fn close_one<G: Growing>(
     growing.grow_row(list, m, l, row, 1)
 }
 
-// Close for each c of a list from an index on, with one filter.
+// The rest of `close`, which hands over to it at 16 entries: for each c of a list from an index on, with one filter.
 fn close_rest(
     c: &[u64; 256],
     from: usize,

@@ -100,7 +100,7 @@ pub fn irrelevant_in_row(
 }
 
 // The relevant entries: each entry's meets with the strings that have 1 at a variable of the set m. `other` and `row` are
-// room.
+// room. It stays beside `relevant_by_entry` for its promise.
 pub fn relevant(
     t: &[u64; 256],
     tn: usize,
@@ -120,7 +120,7 @@ pub fn relevant(
 }
 
 // The irrelevant entries: each entry's meet with the string that has 0 at all variables of the set m. `other` and `row` are
-// room.
+// room. It stays beside `irrelevant_in_row` for its promise.
 pub fn irrelevant(
     t: &[u64; 256],
     tn: usize,

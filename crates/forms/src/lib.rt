@@ -16,7 +16,7 @@ ghost use Rattle.forms.specs.Listings.{Reads};
 
 use tables::{Answered, Refusal, Table};
 
-// Where a form ends: it is all the bytes, or more may follow it.
+// Where a form ends: it is all the bytes, or more may follow it. Contracts name it (`fits`), which a closure has not.
 #[derive(Clone, Copy, Debug, PartialEq, Eq)]
 pub enum Extent {
     Whole,

@@ -170,7 +170,9 @@ fn grow_surveyed(
 }
 
 // Grows the list by y, a string of l positions, and notes it. A string without `*` is widened at once: a survey says of few of
-// these that it is enough.
+// these that it is enough. Not inlined: within the loop over a row the scan of the list took up to a third longer, by where
+// the linker put it (measured).
+#[inline(never)]
 fn grow_noted(
     list: &mut [u64; 256],
     n: usize,

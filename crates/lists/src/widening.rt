@@ -56,7 +56,7 @@ pub fn prepare(list: &mut [u64; 256], n: usize, y: u64) -> usize
     k
 }
 
-// What k shades say of the positions of z that open.
+// What k shades say of the positions of z that open. It puts bits together, where `shades_subsume` puts flags.
 fn shade_set(list: &[u64; 256], k: usize, y: u64, z: u64) -> u64
     requires { k ≤ half }
     ensures { (τ : Entries) (s t : Trits) → Shaded s list.now k (near_list τ s)
@@ -124,7 +124,7 @@ pub fn widen(list: &[u64; 256], n: usize, k: usize, l: u32, y: u64) -> u64
     z
 }
 
-// Does one of the entries that k shades are of subsume z?
+// Does one of the entries that k shades are of subsume z? It puts flags together, where `shade_set` puts bits.
 fn shades_subsume(list: &[u64; 256], k: usize, y: u64, z: u64) -> bool
     requires { k ≤ half }
     ensures { (τ : Entries) (s t : Trits) → Shaded s list.now k (near_list τ s)

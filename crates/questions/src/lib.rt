@@ -12,7 +12,7 @@ ghost use Rattle.questions.specs.Replies.{replies, reply_number, reply_word, equ
 use operations::Side;
 use tables::{Refusal, Table};
 
-// The number of a reply: 0 for yes and for no, else that of the refusal.
+// The number of a reply, for C: 0 for yes and for no, else that of the refusal.
 pub fn reply_number(reply: Result<bool, Refusal>) -> u32
     ensures { result ≡ reply_number reply }
 {
@@ -22,7 +22,7 @@ pub fn reply_number(reply: Result<bool, Refusal>) -> u32
     }
 }
 
-// The word of a reply, in place of the word w: 1 for yes, 0 for no, and w itself where the question is refused.
+// The word of a reply, in place of the word w that C lent: 1 for yes, 0 for no, and w itself where the question is refused.
 pub fn reply_word(reply: Result<bool, Refusal>, w: u32) -> u32
     ensures { result ≡ reply_word reply w }
 {

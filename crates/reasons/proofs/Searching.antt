@@ -15,7 +15,7 @@ use lib.ListN.{length, get_or, length-map}
 use Rattle.model.specs.Groups.{Bits, has, meets, or}
 use Rattle.model.specs.Strings.{Trits, covers}
 use Rattle.model.specs.Growth.{Entries, covered}
-use Rattle.model.specs.Tables.{groups}
+use Rattle.model.specs.Tables.{groups, Good}
 use Rattle.model.specs.Reasons.{covers_inside, lowest, together, made_up}
 use Rattle.model.proofs.Tests.{or_cases, or_left, or_right, same_test, decide, true_of, false_of, not_not}
 use Rattle.model.proofs.Bits.{or_length, meets_nonzero}
@@ -23,9 +23,10 @@ use Rattle.model.proofs.Variables.{has_set_of, set_of_has, meets_has, has_meets}
 use Rattle.model.proofs.Strings.{covers_length}
 use Rattle.model.proofs.Reasons.{has_or, same_variables, together_exact, together_length, made_up_together}
 use Rattle.model.proofs.Reasons.{lowest_is, lowest_none}
-use Rattle.words.specs.Words.{set, set_word}
+use Rattle.words.specs.Words.{word, set, set_word}
 use Rattle.words.proofs.Codec.{set_word_or, set_set_word}
-use Rattle.lists.specs.WorkingLists.{WordsOf}
+use Rattle.lists.specs.WorkingLists.{Holds, WordsOf}
+use Rattle.tables.proofs.Arrays.{wide_at}
 use Rattle.lists.proofs.Slices.{words_length}
 use Rattle.covering.proofs.EveryGroup.{test}
 use Rattle.covering.proofs.Pieces.{covered_at, covered_of}
@@ -119,16 +120,34 @@ has_parts r k τ (suc i) j y lt t h =
     (λ below. or_left (has (parts r k τ i) y) (has (part r k (get_or τ i [])) y) (has_parts r k τ i j y below t h))
     (eq-or-lt_of_le (le_of_suc-le-suc lt)))
 
-module _ {l : ℕ} {list : List ℕ} {τ : Entries} (h : WordsOf l list τ) (r k : Bits) (whole : length r ≡ l) where
-  part_length : (j : ℕ) → j < length list → length (part r k (get_or τ j [])) ≡ l
+-- The first n words of a list are those of τ, a good list of strings of l positions: of an array the words up to its count
+-- (`Holds`), of a slice all of them (`WordsOf`).
+record FirstWords (l : ℕ) (list : List ℕ) (n : ℕ) (τ : Entries) : Type 0 where
+  here : (i : ℕ) → i < n → get_or list i 0 ≡ word (get_or τ i [])
+  count : n ≡ length τ
+  good : Good l τ
+  short : l ≤ 32
+
+of_array : {l : ℕ} {list : List ℕ} {n : ℕ} {τ : Entries} → Holds l list n τ → FirstWords l list n τ
+of_array h = record { here = h.here; count = h.count; good = h.good; short = h.short }
+
+of_slice : {l : ℕ} {list : List ℕ} {τ : Entries} → WordsOf l list τ → FirstWords l list (length list) τ
+of_slice h = record { here = h.here; count = h.count; good = h.good; short = h.short }
+
+first_length : {l : ℕ} {list : List ℕ} {n : ℕ} {τ : Entries} → FirstWords l list n τ → (i : ℕ) → i < n
+    → length (get_or τ i []) ≡ l
+first_length {l = l} {τ = τ} h i lt = wide_at l τ i h.good.wide (omega (arith, h.count))
+
+module _ {l : ℕ} {list : List ℕ} {n : ℕ} {τ : Entries} (h : FirstWords l list n τ) (r k : Bits) (whole : length r ≡ l) where
+  part_length : (j : ℕ) → j < n → length (part r k (get_or τ j [])) ≡ l
   unfolding part none
   part_length j lt = go (meets k (largest r (get_or τ j [])))
     where
       go : (c : Bool) → length (cond c (largest r (get_or τ j [])) (none r)) ≡ l
-      go true = largest_length r (get_or τ j []) (words_length h j lt ∙ sym whole) ∙ whole
+      go true = largest_length r (get_or τ j []) (first_length h j lt ∙ sym whole) ∙ whole
       go false = length-map r (λ (b : Bool). false) ∙ whole
 
-  parts_length : (i : ℕ) → i ≤ length list → length (parts r k τ i) ≡ l
+  parts_length : (i : ℕ) → i ≤ n → length (parts r k τ i) ≡ l
   unfolding parts none
   parts_length zero le = length-map r (λ (b : Bool). false) ∙ whole
   parts_length (suc i) le =
@@ -136,19 +155,19 @@ module _ {l : ℕ} {list : List ℕ} {τ : Entries} (h : WordsOf l list τ) (r k
       (part_length i (omega (arith, le)))
 
   -- The parts of all entries are the groups together.
-  parts_together : parts r k τ (length list) ≡ together l r k τ
+  parts_together : parts r k τ n ≡ together l r k τ
   unfolding together groups
   parts_together =
-      same_variables (together l r k τ) (parts r k τ (length list))
-      (parts_length (length list) (omega arith) ∙ sym (together_length l r whole k τ))
+      same_variables (together l r k τ) (parts r k τ n)
+      (parts_length n (omega arith) ∙ sym (together_length l r whole k τ))
       (λ y t.
-      let w = parts_has r k τ (length list) y t in
+      let w = parts_has r k τ n y t in
       let e = get_or τ w.0 [] in
-      let long : length e ≡ length r = words_length h w.0 w.1 ∙ sym whole in
+      let long : length e ≡ length r = first_length h w.0 w.1 ∙ sym whole in
       let g = largest_has r e long y w.3 in
       let m : T (meets k (rest r e)) = rw g.0 at w.2 in
       let d : T (has (rest r e) y) = rw g.0 at w.3 in
-      let size : length (rest r e) ≡ l = covers_length e (rest r e) g.1 ∙ words_length h w.0 w.1 in
+      let size : length (rest r e) ≡ l = covers_length e (rest r e) g.1 ∙ first_length h w.0 w.1 in
       set_of_has l _ y (rest r e) size d
       ((together_exact l r whole k τ y).1 (
         rest r e,
@@ -162,20 +181,20 @@ module _ {l : ℕ} {list : List ℕ} {τ : Entries} (h : WordsOf l list τ) (r k
       (λ y t.
       let w = (together_exact l r whole k τ y).0 (has_set_of l _ y t) in
       let c = covered_of τ w.0 (true_of (covered τ w.0) w.1.1) in
-      let lt : c.0 < length list = omega (arith, c.1, h.count) in
+      let lt : c.0 < n = omega (arith, c.1, h.count) in
       let all = largest_all r (get_or τ c.0 []) w.0 (test c.2) w.2 in
       let q = meets_has k w.0 w.3.0 in
-      has_parts r k τ (length list) c.0 y lt
+      has_parts r k τ n c.0 y lt
       (has_meets k (largest r (get_or τ c.0 [])) q.0 q.1 (all q.0 q.2)) (all y w.3.1))
 
   -- ---- As words
 
   module _ {s m : ℕ} (is_s : s ≡ set_word r) (is_m : m ≡ set_word k) where
-    part_is : (j : ℕ) → j < length list → part_word (get_or list j 0) s m ≡ set_word (part r k (get_or τ j []))
+    part_is : (j : ℕ) → j < n → part_word (get_or list j 0) s m ≡ set_word (part r k (get_or τ j []))
     unfolding part_word part none
     part_is j lt =
         let e = get_or τ j [] in
-        let long = words_length h j lt in
+        let long = first_length h j lt in
         rw (h.here j lt, is_s, is_m, largest_is r e (long ∙ sym whole) (rw long h.short), apart_word k (largest r e))
         (go (meets k (largest r e)) (largest r e))
       where
@@ -183,16 +202,27 @@ module _ {l : ℕ} {list : List ℕ} {τ : Entries} (h : WordsOf l list τ) (r k
         go true g = refl
         go false g = sym (none_word r)
 
-    parts_is : (i : ℕ) → i ≤ length list → parts_word list s m i ≡ set_word (parts r k τ i)
+    parts_is : (i : ℕ) → i ≤ n → parts_word list s m i ≡ set_word (parts r k τ i)
     unfolding parts_word parts none
     parts_is zero le = sym (none_word r)
     parts_is (suc i) le =
         rw (set_word_or (parts r k τ i) (part r k (get_or τ i [])))
         (ap₂ bit_or (parts_is i (omega (arith, le))) (part_is i (omega (arith, le))))
 
-    -- What the loop gathers.
-    pub together_is : parts_word list s m (length list) ≡ set_word (together l r k τ)
-    together_is = parts_is (length list) (omega arith) ∙ ap set_word parts_together
+    all_parts : parts_word list s m n ≡ set_word (together l r k τ)
+    all_parts = parts_is n (omega arith) ∙ ap set_word parts_together
+
+-- What the parts of the entries come to, of an array up to its count.
+module _ {l : ℕ} {list : List ℕ} {n : ℕ} {τ : Entries} (h : Holds l list n τ) (r k : Bits) (whole : length r ≡ l) where
+  module _ {s m : ℕ} (is_s : s ≡ set_word r) (is_m : m ≡ set_word k) where
+    pub together_is : parts_word list s m n ≡ set_word (together l r k τ)
+    together_is = all_parts (of_array h) r k whole is_s is_m
+
+-- The same of a slice: what the loop gathers.
+module _ {l : ℕ} {list : List ℕ} {τ : Entries} (h : WordsOf l list τ) (r k : Bits) (whole : length r ≡ l) where
+  module _ {s m : ℕ} (is_s : s ≡ set_word r) (is_m : m ≡ set_word k) where
+    pub together_words : parts_word list s m (length list) ≡ set_word (together l r k τ)
+    together_words = all_parts (of_slice h) r k whole is_s is_m
 
 -- The groups make up s exactly where their word is that of s.
 pub made_up_word : (l : ℕ) (s m : Bits) (τ : Entries) → length s ≡ l

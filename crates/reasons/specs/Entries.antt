@@ -50,7 +50,7 @@ unfoldable pub parts_word : List ℕ → ℕ → ℕ → ℕ → ℕ
 parts_word list s m zero = 0
 parts_word list s m (suc i) = bit_or (parts_word list s m i) (part_word (get_or list i 0) s m)
 
--- P of any list of strings of l positions that the array holds, and any sets whose words are s and m.
+-- P of any list of strings of l positions whose words the slice has, and any sets whose words are s and m.
 abbrev pub OfParts : (l : ℕ) (list : List ℕ) (s m : ℕ) → (Entries → Bits → Bits → Type 0) → Type 0
 OfParts l list s m P =
     (τ : Entries) (r k : Bits) → WordsOf l list τ → length r ≡ l → length k ≡ l → s ≡ set_word r → m ≡ set_word k → P τ r k

@@ -43,7 +43,7 @@ pub enum Verdict {
     Absent(Reason),
 }
 
-// The number of a verdict: 0, or that of the refusal.
+// The number of a verdict, for C: 0, or that of the refusal.
 pub fn verdict_number(v: Result<Verdict, Refusal>) -> u32
     ensures { result ≡ verdict_number v }
 {
@@ -68,7 +68,7 @@ impl From<Reason> for u32 {
     }
 }
 
-// The word of a verdict, in place of the word w: w itself where the call is refused.
+// The word of a verdict, in place of the word w that C lent: w itself where the call is refused.
 pub fn verdict_word(v: Result<Verdict, Refusal>, w: u32) -> u32
     ensures { result ≡ verdict_word v w }
 {
@@ -80,7 +80,7 @@ pub fn verdict_word(v: Result<Verdict, Refusal>, w: u32) -> u32
     }
 }
 
-// The word of the entry of x, in place of the word w: 0 unless s is joined.
+// The word of the entry of x, in place of the word w that C lent: 0 unless s is joined.
 pub fn x_word(v: Result<Verdict, Refusal>, w: u32) -> u32
     ensures { result ≡ x_word v w }
 {
@@ -92,7 +92,7 @@ pub fn x_word(v: Result<Verdict, Refusal>, w: u32) -> u32
     }
 }
 
-// The word of the entry of t, in place of the word w: 0 unless s is joined.
+// The word of the entry of t, in place of the word w that C lent: 0 unless s is joined.
 pub fn t_word(v: Result<Verdict, Refusal>, w: u32) -> u32
     ensures { result ≡ t_word v w }
 {

@@ -17,8 +17,8 @@ use lists::values::Came;
 use operations::Side;
 use tables::{Answered, Refusal, Table};
 
-// A running analysis: the answer of the call that last wrote it, the side as it was given, how many equations were accepted,
-// and the table.
+// A running analysis, as C has it: the number of the answer of the call that last wrote it (`code`), the side as it was given,
+// how many equations were accepted, and the table. No more derives: nothing compares or prints its 2 KiB.
 #[repr(C)]
 #[derive(Clone, Copy)]
 pub struct Running {
@@ -101,7 +101,7 @@ pub fn unify(s: &mut Running, left: &[u8], right: &[u8]) -> Result<(), Refusal>
     answered(s, came, &list)
 }
 
-// The state of a run that stopped after k equations.
+// The state of a run that stopped after k equations; `code` is the number that C is handed.
 pub fn stopped(code: u32, side: u32, k: usize, t: Table) -> Running
     requires { k ≤ most_equations }
     ensures { result ≡ state code side k t }
@@ -114,7 +114,7 @@ pub fn stopped(code: u32, side: u32, k: usize, t: Table) -> Running
     }
 }
 
-// A refused run has applied none.
+// A refused run has applied none; `code` is the number that C is handed.
 pub fn refused(code: u32, side: u32) -> Running
     ensures { result ≡ none_applied code side }
 {
@@ -174,7 +174,7 @@ pub fn run(f: Left, side: u32, b: &[u8], q: &[u8]) -> Running
     }
 }
 
-// Writes the table of a state. The number of the answer.
+// Writes the table of a state. The number of the answer, for C.
 pub fn write(s: Running, out: &mut [u8]) -> u32
     ensures { (result ≡ state_number s out.old) × (out.new ≡ state_bytes s out.old) }
 {

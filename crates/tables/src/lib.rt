@@ -7,7 +7,8 @@ ghost use Rattle.tables.specs.Refusals.{refusal_number, answer_number, Accepted}
 ghost use Rattle.tables.specs.Values.{zeros_of, zero_table, accepts, refuses, good_width, check_table, GoodTable};
 ghost use Rattle.tables.specs.Values.{of_width, all_clean, zero_past};
 
-// A table value: l variables, n entries in order, and zeros past the count. Bit i - 1 of a word is for Xi.
+// A table value: l variables, n entries in order, and zeros past the count. Bit i - 1 of a word is for Xi. Two arrays, since
+// C has them so; no more derives, since nothing compares or prints 2 KiB.
 #[repr(C)]
 #[derive(Clone, Copy)]
 pub struct Table {
@@ -35,7 +36,7 @@ pub enum Refusal {
 }
 
 // An answer with the table that goes with it. No `Result<Table, Refusal>`: a refusal hands back the table that came in (the
-// clause of `operations::equation`, theorems of `demands/specs/Demand3`).
+// clause of `operations::equation`, theorems of `demands/specs/Demand3`). It derives what `Table` does.
 #[derive(Clone, Copy)]
 pub struct Answered {
     pub answer: Result<(), Refusal>,
@@ -64,7 +65,7 @@ impl From<Refusal> for u32 {
     }
 }
 
-// The number of an answer: 0 where accepted.
+// The number of an answer, for C: 0 where accepted. No `From`: neither type is ours.
 pub fn answer_number(a: Result<(), Refusal>) -> u32
     ensures { result ≡ answer_number a }
 {
@@ -143,7 +144,7 @@ pub fn refused(r: Refusal) -> Answered
     }
 }
 
-// Has none of the first n entries a bit above l or a value without care? Inner: not a public call.
+// Has none of the first n entries a bit above l or a value without care? Both arrays, in step. Inner: not a public call.
 pub fn all_clean<'a>(care: &'a [u32; 256], value: &'a [u32; 256], n: usize, l: u32) -> bool
     requires { (n ≤ 256) × (l ≤ 32) }
     ensures { result ≡ all_clean l n care.now value.now }
@@ -156,7 +157,8 @@ pub fn all_clean<'a>(care: &'a [u32; 256], value: &'a [u32; 256], n: usize, l: u
     good
 }
 
-// Are the entries past the first n zero? What any of their words has is gathered, and asked for once.
+// Are the entries past the first n zero? What any of their words has, of both arrays in step, is gathered, and asked for
+// once.
 fn zero_past<'a>(care: &'a [u32; 256], value: &'a [u32; 256], n: usize) -> bool
     requires { n ≤ 256 }
     ensures { result ≡ zero_past n care.now value.now }

@@ -20,7 +20,8 @@ pub const ARITIES: u16 = 16;
 // The most tokens of an equation.
 const TOKENS: usize = 1024;
 
-// How the left variable x of an equation x = t stands in t: t is exactly x, holds x deeper, or does not hold it.
+// How the left variable x of an equation x = t stands in t: t is exactly x, holds x deeper, or does not hold it. Contracts
+// name it (`Told`), which a closure has not.
 #[derive(Clone, Copy, Debug, PartialEq, Eq)]
 pub enum Kind {
     Itself,

@@ -7,7 +7,7 @@ pub mod runs; // a table, an equation, a run
 use running::Running;
 
 // What is answered of a run: its state, and the length of the text that was measured or written. No `Result`: a refused run has
-// both too (`refused_report`).
+// both too (`refused_report`). It derives what `Table` does.
 #[derive(Clone, Copy)]
 pub struct Reported {
     pub state: Running,

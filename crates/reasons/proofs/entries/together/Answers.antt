@@ -7,7 +7,7 @@ use borrow.Author.Tests.{eq-eqb, ne_eqb}
 use lib.Bits.{bit_and, bit_or, or_zero_r}
 use lib.ListN.{length, get_or}
 use Rattle.reasons.specs.Entries.{largest_word, part_word, parts_word}
-use Rattle.reasons.proofs.Searching.{together_is}
+use Rattle.reasons.proofs.Searching.{together_words}
 use Rattle.reasons.proofs.entries.together.Goals as goal
 use Rattle.reasons.proofs.entries.together.Goals.{else-g-m-ne0, then-g-m-ne0}
 
@@ -40,4 +40,4 @@ pub returns : goal.returns
 returns c =
     λ l τ r k h whole long is_s is_m.
     let end : c.loop-e.e-index ≡ length c.args.list.now = omega arith in
-    c.loop-e.invariant ∙ ap (parts_word _ _ _) end ∙ together_is h r k whole is_s is_m
+    c.loop-e.invariant ∙ ap (parts_word _ _ _) end ∙ together_words h r k whole is_s is_m
